@@ -1,0 +1,4 @@
+pub mod Walks
+pub mod RunLaws
+pub mod Decoding
+pub mod Layouts
