@@ -42,19 +42,19 @@ opened-tells kind fewest most bytes =
     cond-both (ltb (length bytes) 4) _ _ P
     (λ e. omega arith)
     (λ e. let long : 4 ≤ length bytes = ltb-false (length bytes) 4 e in
-      cond-both (eqb (getD bytes 0 0) kind) _ _ P
-      (λ f. cond-both (ltb (getD bytes 1 0) fewest || ltb most (getD bytes 1 0)) _ _ P
-        (λ g. omega arith)
-        (λ g. let parts = or-parts (ltb (getD bytes 1 0) fewest) (ltb most (getD bytes 1 0)) g in
-          record {
-            long = long;
-            kind-is = eqb-true (getD bytes 0 0) kind f;
-            count-is = refl;
-            end-is = refl;
-            enough = ltb-false (getD bytes 1 0) fewest (parts .0);
-            within = ltb-false most (getD bytes 1 0) (parts .1);
-          }))
-      (λ f. omega arith))
+    cond-both (eqb (getD bytes 0 0) kind) _ _ P
+    (λ f. cond-both (ltb (getD bytes 1 0) fewest || ltb most (getD bytes 1 0)) _ _ P
+    (λ g. omega arith)
+    (λ g. let parts = or-parts (ltb (getD bytes 1 0) fewest) (ltb most (getD bytes 1 0)) g in
+    record {
+      long = long;
+      kind-is = eqb-true (getD bytes 0 0) kind f;
+      count-is = refl;
+      end-is = refl;
+      enough = ltb-false (getD bytes 1 0) fewest (parts .0);
+      within = ltb-false most (getD bytes 1 0) (parts .1);
+    }))
+    (λ f. omega arith))
 
 pub header-read : (kind fewest most : ℕ) (bytes : List ℕ) (h : Header) → Ok h ≡ opened kind fewest most bytes → Read kind fewest most bytes h
 header-read kind fewest most bytes h e = subst (Opens kind fewest most bytes) (sym e) (opened-tells kind fewest most bytes)

@@ -23,14 +23,29 @@ pub fn read_header(frame: &[u8], kind: u8, fewest: u8, most: u8) -> Result<Heade
     ensures { λ r. ⌜ r ≡ opened kind fewest most (now (frame .entry)) ⌝ }
 {
     if frame.len() < 4 {
-        return Err(DecodeFault { reason: Reason::Short, place: frame.len(), kind });
+        return Err(DecodeFault {
+            reason: Reason::Short,
+            place: frame.len(),
+            kind,
+        });
     }
     if frame[0] != kind {
-        return Err(DecodeFault { reason: Reason::OtherKind, place: 0, kind });
+        return Err(DecodeFault {
+            reason: Reason::OtherKind,
+            place: 0,
+            kind,
+        });
     }
     let count = frame[1];
     if count < fewest || count > most {
-        return Err(DecodeFault { reason: Reason::Count, place: 1, kind });
+        return Err(DecodeFault {
+            reason: Reason::Count,
+            place: 1,
+            kind,
+        });
     }
-    Ok(Header { count, end: frame[2] as u16 * 256 + frame[3] as u16 })
+    Ok(Header {
+        count,
+        end: frame[2] as u16 * 256 + frame[3] as u16,
+    })
 }

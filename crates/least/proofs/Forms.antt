@@ -1,4 +1,4 @@
--- The run that a plain row of least values stands for.
+-- Least values are a lawful kind, and what a plain row of them stands for.
 use mathlib.Core.Path.{_≡_, refl, sym, ap, subst, _∙_}
 use mathlib.Core.List.{List, []}
 use mathlib.Core.Bool.{false}
@@ -11,7 +11,13 @@ use Rattle.runs.specs.Runs.{rising, every, is-run, as-run, row-items}
 use Rattle.runs.proofs.Rising.{left, right}
 use Rattle.runs.proofs.Forms.{run-items}
 use Rattle.runs.proofs.Rows.{row-is-run, row-counted, row-none, make-row, rest-fresh}
-use Rattle.least.specs.Least.{counted, unused, row-kept, least-form}
+use Rattle.runs.proofs.Orders.{size-lawful}
+use Rattle.readings.specs.Readings.{hash-of}
+use Rattle.synopsis.specs.Kind.{Laws}
+use Rattle.records.specs.Records.{number-layout}
+use Rattle.records.proofs.RunLaws.{run-laws}
+use Rattle.records.proofs.Layouts.{number-readable}
+use Rattle.least.specs.Least.{least-kind, counted, unused, row-kept, least-form}
 use Rattle.least.specs.declared.row.LeastValues.{LeastValues}
 
 module _ (row : LeastValues) (long : length (row .values) ≡ 64) where
@@ -37,3 +43,6 @@ kept-form row t = ap (as-run by-size 64) (row-counted by-size unused (row .count
 pub fresh-row : (count : ℕ) (values : List ℕ) → count ≤ 64 → length values ≡ 64 → T (rising by-size (take count values)) → drop count values ≡ drop count (replicate 64 0) → T (row-kept (record { count = count; values = values }))
 fresh-row count values le long up rest =
     make-row by-size unused count values (omega arith) up (subst (λ (l : List ℕ). T (every unused l)) (sym rest) (rest-fresh unused 0 tt count 64))
+
+pub least-laws : Laws least-kind
+least-laws = run-laws 2 64 number-layout by-size number-readable hash-of size-lawful (omega arith)

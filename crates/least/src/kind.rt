@@ -20,6 +20,12 @@ use synopsis::fault::DecodeFault;
 use synopsis::fault::EncodeFault;
 use synopsis::kind::Synopsis;
 
+// A row that counts nothing.
+const NOTHING: LeastValues = LeastValues {
+    count: 0,
+    values: [0; 64],
+};
+
 impl LeastRun {
     // The run that a plain row is, where it passes the check.
     pub fn checked(row: &LeastValues) -> Option<LeastRun>
@@ -37,7 +43,7 @@ impl LeastRun {
         ensures { λ r. ⌜ counted (r .row) ≡ least-form (now (row .entry)) .items ⌝ }
     {
         let Some(run) = LeastRun::checked(row) else {
-            return LeastRun { row: LeastValues { count: 0, values: [0; 64] } };
+            return LeastRun { row: NOTHING };
         };
         run
     }
@@ -54,7 +60,9 @@ impl LeastRun {
     {
         let mut values = [0; 64];
         let count = union(self.as_slice(), other.as_slice(), &mut values);
-        LeastRun { row: LeastValues { count, values } }
+        LeastRun {
+            row: LeastValues { count, values },
+        }
     }
 }
 
@@ -88,7 +96,7 @@ pub impl Synopsis for LeastValues as LeastValuesSynopsis {
     }
 
     fn empty() -> Self {
-        LeastValues { count: 0, values: [0; 64] }
+        NOTHING
     }
 
     fn make(reading: Reading) -> Self {

@@ -35,6 +35,10 @@ pub fn mark(hash: u64) -> (u32, u32)
 {
     let quotient = hash / 64;
     let count = quotient.trailing_zeros();
-    let rank = if quotient == 0 || count > 31 { 31 } else { count };
+    let rank = if quotient == 0 || count > 31 {
+        31
+    } else {
+        count
+    };
     ((hash % 64) as u32, rank)
 }

@@ -8,20 +8,18 @@ use native.Mathlib.Omega.{arith}
 use lib.Dec.{eqb, ltb}
 use lib.ListN.{length, take, drop}
 use Rattle.std.specs.shelf.Lists.{joined}
-use Rattle.std.specs.Results.{Cases}
 use Rattle.std.specs.declared.cmp.Ordering.{Ordering}
 use Rattle.std.specs.declared.option.Option.{Option}
 use Rattle.std.specs.declared.option.Option.the-variants.{Some, None}
 use Rattle.std.specs.declared.result.Result.{Result}
 use Rattle.std.specs.declared.result.Result.the-variants.{Ok, Err}
 use Rattle.std.proofs.shelf.Lists.{length-append, take-at, drop-at}
-use Rattle.std.proofs.shelf.Results.{cases-at-err}
 use Rattle.std.proofs.shelf.Tests.{cond-both, cond-true, eq-eqb, eqb-true, and-from, and-parts, ltb-true, both-ways}
 use Rattle.readings.specs.declared.Reading.{Reading}
 use Rattle.synopsis.specs.declared.fault.DecodeFault.{DecodeFault}
 use Rattle.synopsis.specs.declared.fault.Reason.the-variants as reason
 use Rattle.synopsis.specs.Faults.{fault}
-use Rattle.synopsis.specs.Kind.{Kind, Laws, overlong}
+use Rattle.synopsis.specs.Kind.{Kind, Laws, Inside, overlong}
 use Rattle.runs.specs.Order.{Lawful}
 use Rattle.runs.specs.Runs.{Run, as-run, first-fall}
 use Rattle.runs.proofs.Forms.{no-fall, fall-inside, run-rises, run-few, of-items, join-assoc, join-comm, join-idem, join-unit}
@@ -68,7 +66,7 @@ module _ {E : Type 0} (number most : ℕ) (l : Layout E) (order : E → E → Or
       let none = no-fall order xs (run-rises order most x) in
       let cutting : cut l (length xs) (drop 4 bytes) ≡ xs = cut-joined l rd xs in
       let whole : (eqb (end-of l (length xs)) (length bytes) && eqb (end-of l (length xs)) (end-of l (length xs))) ≡ true =
-            and-from _ _ (eq-eqb _ _ (sym (length-frame xs))) (eq-eqb _ _ refl) in
+      and-from _ _ (eq-eqb _ _ (sym (length-frame xs))) (eq-eqb _ _ refl) in
       ap (after-header number most l order bytes) (opened-header number 0 most (length xs) (end-of l (length xs)) (joined (l .written) xs) (omega arith) (run-few order most x))
       ∙ cond-true _ _ _ whole
       ∙ ap (λ (ys : List E). rising-or number most l order ys (first-fall order ys)) cutting
@@ -76,30 +74,26 @@ module _ {E : Type 0} (number most : ℕ) (l : Layout E) (order : E → E → Or
       ∙ ap Ok (of-items order most x)
 
   -- what is wrong lies within the bytes
-  abbrev Faults : ℕ → Result (Run order most) DecodeFault → Type 0
-  Faults n r = Cases r (λ _. Unit {0}) (λ e. e .place ≤ n)
-
-  rising-inside : (n : ℕ) (xs : List E) (o : Option ℕ) → first-fall order xs ≡ o → end-of l (length xs) ≤ n → Faults n (rising-or number most l order xs o)
+  rising-inside : (n : ℕ) (xs : List E) (o : Option ℕ) → first-fall order xs ≡ o → end-of l (length xs) ≤ n → Inside n (rising-or number most l order xs o)
   rising-inside n xs None e le = tt
   rising-inside n xs (Some i) e le =
       let lt = fall-inside order xs i e in
       let m = end-mono i (length xs) (omega arith) in omega arith
 
-  after-inside : (bytes : List ℕ) (r : Result Header DecodeFault) → Opens number 0 most bytes r → Faults (length bytes) (after-header number most l order bytes r)
+  after-inside : (bytes : List ℕ) (r : Result Header DecodeFault) → Opens number 0 most bytes r → Inside (length bytes) (after-header number most l order bytes r)
   after-inside bytes (Err e) h = h
   after-inside bytes (Ok o) h =
       let xs = cut l (o .count) (drop 4 bytes) in
-      cond-both (eqb (o .end) (length bytes) && eqb (o .end) (end-of l (o .count))) _ _ (Faults (length bytes))
+      cond-both (eqb (o .end) (length bytes) && eqb (o .end) (end-of l (o .count))) _ _ (Inside (length bytes))
       (λ q. let p = and-parts (eqb (o .end) (length bytes)) (eqb (o .end) (end-of l (o .count))) q in
-        let a = eqb-true (o .end) (length bytes) (p .0) in
-        let b = eqb-true (o .end) (end-of l (o .count)) (p .1) in
-        let c = ap (end-of l) (length-cut l (o .count) (drop 4 bytes)) in
-        rising-inside (length bytes) xs (first-fall order xs) refl (omega arith))
+      let a = eqb-true (o .end) (length bytes) (p .0) in
+      let b = eqb-true (o .end) (end-of l (o .count)) (p .1) in
+      let c = ap (end-of l) (length-cut l (o .count) (drop 4 bytes)) in
+      rising-inside (length bytes) xs (first-fall order xs) refl (omega arith))
       (λ q. let long : 4 ≤ length bytes = h .long in omega arith)
 
-  pub read-inside : (bytes : List ℕ) (e : DecodeFault) → read-frame number most l order bytes ≡ Err e → e .place ≤ length bytes
-  read-inside bytes e q =
-      cases-at-err (λ _. Unit {0}) (λ d. d .place ≤ length bytes) e q (after-inside bytes (opened number 0 most bytes) (opened-tells number 0 most bytes))
+  pub read-inside : (bytes : List ℕ) → Inside (length bytes) (read-frame number most l order bytes)
+  read-inside bytes = after-inside bytes (opened number 0 most bytes) (opened-tells number 0 most bytes)
 
   pub run-laws : (one : Reading → E) → Lawful order → end-of l most ≤ 2048 → Laws (run-kind number most l order one)
   run-laws one laws short = record {

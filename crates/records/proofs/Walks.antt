@@ -48,7 +48,7 @@ module _ {E : Type 0} (l : Layout E) where
       let s : n - i ≡ suc (n - (i + 1)) = omega arith in
       let d : drop (l .width) (drop at bytes) ≡ drop (at + l .width) bytes = drop-drop (l .width) at bytes in
       let open-cut : cut l (n - i) (drop at bytes) ≡ x ∷ cut l (n - (i + 1)) (drop (at + l .width) bytes) =
-            ap (λ (k : ℕ). cut l k (drop at bytes)) s ∙ ap (λ (y : E). y ∷ cut l (n - (i + 1)) (drop (l .width) (drop at bytes))) (sym q) ∙ ap (λ (b : List ℕ). x ∷ cut l (n - (i + 1)) b) d in
+      ap (λ (k : ℕ). cut l k (drop at bytes)) s ∙ ap (λ (y : E). y ∷ cut l (n - (i + 1)) (drop (l .width) (drop at bytes))) (sym q) ∙ ap (λ (b : List ℕ). x ∷ cut l (n - (i + 1)) b) d in
       rw (take-more-set out i x lt, append-assoc) (ap (λ (r : List E). take i out ++ r) (sym open-cut) ∙ inv)
 
   -- and its bytes with it

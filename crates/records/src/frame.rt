@@ -28,7 +28,13 @@ pub fn encode_run<E: Record>(kind: u8, items: &[E], out: &mut [u8]) -> Result<us
     if out.len() < end {
         return Err(EncodeFault::Room);
     }
-    let header = header_bytes(kind, Header { count: items.len() as u8, end: end as u16 });
+    let header = header_bytes(
+        kind,
+        Header {
+            count: items.len() as u8,
+            end: end as u16,
+        },
+    );
     out[0..4].copy_from_slice(&header);
     put_all(items, &mut out[4..end]);
     Ok(end)
@@ -48,11 +54,19 @@ pub fn decode_run<E: Record>(kind: u8, frame: &[u8], out: &mut [E]) -> Result<us
     let count = header.count as usize;
     let end = header.end as usize;
     if end != frame.len() || end != 4 + count * width {
-        return Err(DecodeFault { reason: Reason::End, place: 2, kind });
+        return Err(DecodeFault {
+            reason: Reason::End,
+            place: 2,
+            kind,
+        });
     }
     get_all(&frame[4..end], &mut out[0..count]);
     match fall(&out[0..count]) {
-        Some(i) => Err(DecodeFault { reason: Reason::Order, place: 4 + i * width, kind }),
+        Some(i) => Err(DecodeFault {
+            reason: Reason::Order,
+            place: 4 + i * width,
+            kind,
+        }),
         None => Ok(count),
     }
 }

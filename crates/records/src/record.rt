@@ -27,7 +27,7 @@ pub trait Record: Element {
 }
 
 // Writes records one behind the other over `out`, which they fill.
-pub fn put_all<E: Record>(items: &[E], out: &mut [u8])
+pub(crate) fn put_all<E: Record>(items: &[E], out: &mut [u8])
     requires { ⌜ length (now out) ≡ length (now items) * E·Record .layout .width ⌝ }
     ensures { λ _. ⌜ now (out .exit) ≡ joined (E·Record .layout .written) (now (items .entry)) ⌝ }
 {
@@ -40,7 +40,7 @@ pub fn put_all<E: Record>(items: &[E], out: &mut [u8])
 }
 
 // Reads as many records as `out` has places from bytes that they fill.
-pub fn get_all<E: Record>(bytes: &[u8], out: &mut [E])
+pub(crate) fn get_all<E: Record>(bytes: &[u8], out: &mut [E])
     requires { ⌜ length (now bytes) ≡ length (now out) * E·Record .layout .width ⌝ }
     ensures value { λ _. ⌜ now (out .exit) ≡ cut (E·Record .layout) (length (now (out .entry))) (now (bytes .entry)) ⌝ }
     ensures back { λ _. ⌜ joined (E·Record .layout .written) (now (out .exit)) ≡ now (bytes .entry) ⌝ }

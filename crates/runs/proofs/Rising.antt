@@ -86,9 +86,9 @@ module _ {E : Type 0} (order : E → E → Ordering) (laws : Lawful order) where
   fills-first : (r : E) (rs : List E) (t : E) (ts : List E) → T (rising-from order r rs) → Within (r ∷ rs) (t ∷ ts) → (Within rs ts → rs ≡ ts) → r ≡ t → r ∷ rs ≡ t ∷ ts
   fills-first r rs t ts hr sub rest e =
       let down : Within rs ts = λ x m.
-            let rx : order r x ≡ Less = all-among (λ y. order r y ≡ Less) rs (above r rs hr) x m in
-            let no : x ≡ t → ⊥ = λ q. never-less r (subst (λ (y : E). order r y ≡ Less) (q ∙ sym e) rx) in
-            ⊎-elim (λ q. absurd (no q)) (λ n. n) (sub x (inr m)) in
+      let rx : order r x ≡ Less = all-among (λ y. order r y ≡ Less) rs (above r rs hr) x m in
+      let no : x ≡ t → ⊥ = λ q. never-less r (subst (λ (y : E). order r y ≡ Less) (q ∙ sym e) rx) in
+      ⊎-elim (λ q. absurd (no q)) (λ n. n) (sub x (inr m)) in
       let same = rest down in
       cc
 
@@ -96,7 +96,7 @@ module _ {E : Type 0} (order : E → E → Ordering) (laws : Lawful order) where
   fills-later r rs t ts hr ht sub rest n =
       let tr : order t r ≡ Less = all-among (λ y. order t y ≡ Less) ts (above t ts ht) r n in
       let beyond : (x : E) → Among x (r ∷ rs) → order t x ≡ Less = λ x m.
-            ⊎-elim (λ q. subst (λ (y : E). order t y ≡ Less) (sym q) tr) (λ k. laws .trans t r x tr (all-among (λ y. order r y ≡ Less) rs (above r rs hr) x k)) m in
+      ⊎-elim (λ q. subst (λ (y : E). order t y ≡ Less) (sym q) tr) (λ k. laws .trans t r x tr (all-among (λ y. order r y ≡ Less) rs (above r rs hr) x k)) m in
       rest (λ x m. ⊎-elim (λ q. absurd (never-less t (subst (λ (y : E). order t y ≡ Less) q (beyond x m)))) (λ k. k) (sub x m))
 
   -- a run within another that is no longer is that other
@@ -117,7 +117,7 @@ module _ {E : Type 0} (order : E → E → Ordering) (laws : Lawful order) where
     not-full r m full =
         let few : length rs ≤ k = a .few in
         let sub : Within ss rs = λ s n.
-              ⊎-elim (λ h. h) (λ h. absurd (never-less r (laws .trans r s r (all-among (λ y. order y s ≡ Less) rs (h .1) r m) (all-among (λ y. order y r ≡ Less) ss (full .1) s n)))) (a .least s (qp s (b .found s n))) in
+        ⊎-elim (λ h. h) (λ h. absurd (never-less r (laws .trans r s r (all-among (λ y. order y s ≡ Less) rs (h .1) r m) (all-among (λ y. order y r ≡ Less) ss (full .1) s n)))) (a .least s (qp s (b .found s n))) in
         let same = fills ss rs (b .rises) (a .rises) sub (omega (arith, full .0)) in
         never-less r (all-among (λ y. order y r ≡ Less) ss (full .1) r (subst (λ (l : List E). Among r l) (sym same) m))
 

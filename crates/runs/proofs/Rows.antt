@@ -22,6 +22,7 @@ rising-is order xs = by (first-fall order xs) refl (rising order xs) refl
   where
     clash : (i : ℕ) → Some i ≡ None → ⊥
     clash i e = let z : _≡_ {A = ℕ} 0 1 = cc in omega arith
+
     by : (o : Option ℕ) → first-fall order xs ≡ o → (b : Bool) → rising order xs ≡ b → b ≡ not (isSome o)
     by None e true r = refl
     by None e false r = absurd (subst T r (rising-if-none order xs e))

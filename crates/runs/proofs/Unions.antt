@@ -146,10 +146,10 @@ module _ {E : Type 0} (order : E → E → Ordering) (laws : Lawful order) where
       beyond x full =
           ⊎-elim
           (λ all. let few : length ts ≤ k = b .few in
-            let same = fills order laws rs ts (a .rises) (b .rises) all (omega (arith, full .0)) in
-            inr (ap length (sym same) ∙ full .0, subst (λ (l : List E). All (λ t. order t x ≡ Less) l) same (full .1)))
+          let same = fills order laws rs ts (a .rises) (b .rises) all (omega (arith, full .0)) in
+          inr (ap length (sym same) ∙ full .0, subst (λ (l : List E). All (λ t. order t x ≡ Less) l) same (full .1)))
           (λ one. let rx = all-among (λ r. order r x ≡ Less) rs (full .1) (one .0) (one .1) in
-            inr (one .2 .0, all-from-among (λ t. order t x ≡ Less) ts (λ t m. laws .trans t (one .0) x (all-among (λ y. order y (one .0) ≡ Less) ts (one .2 .1) t m) rx)))
+          inr (one .2 .0, all-from-among (λ t. order t x ≡ Less) ts (λ t m. laws .trans t (one .0) x (all-among (λ y. order y (one .0) ≡ Less) ts (one .2 .1) t m) rx)))
           (sweep (λ r. Among r ts) (λ r. (length ts ≡ k) × All (λ t. order t r ≡ Less) ts) rs (λ r m. b .least r (inl m)))
 
   swap : (A B : Type 0) → A ⊎ B → B ⊎ A
@@ -161,14 +161,14 @@ module _ {E : Type 0} (order : E → E → Ordering) (laws : Lawful order) where
     only = λ k xs ys rs hx hy l. least-same order laws k (Either order xs ys) (Either order xs ys) rs (union-of order k xs ys) l (union-means k xs ys hx hy) (λ x h. h) (λ x h. h);
     comm = λ k xs ys hx hy. least-same order laws k (Either order xs ys) (Either order ys xs) _ _ (union-means k xs ys hx hy) (union-means k ys xs hy hx) (λ x h. swap (Among x xs) (Among x ys) h) (λ x h. swap (Among x ys) (Among x xs) h);
     assoc = λ k xs ys zs hx hy hz.
-      let u = union-means k xs ys hx hy in
-      let v = union-means k ys zs hy hz in
-      let one = widen k (Either order xs ys) (λ x. Among x zs) _ _ u (union-means k (union-of order k xs ys) zs (u .rises) hz) in
-      let turn = like k (Either order xs (union-of order k ys zs)) (λ x. Among x (union-of order k ys zs) ⊎ Among x xs) _ (λ x h. swap (Among x xs) (Among x (union-of order k ys zs)) h) (λ x h. swap (Among x (union-of order k ys zs)) (Among x xs) h) (union-means k xs (union-of order k ys zs) hx (v .rises)) in
-      let two = widen k (Either order ys zs) (λ x. Among x xs) _ _ v turn in
-      least-same order laws k (λ x. Either order xs ys x ⊎ Among x zs) (λ x. Either order ys zs x ⊎ Among x xs) _ _ one two
-      (λ x h. ⊎-elim (λ g. ⊎-elim (λ a. inr a) (λ a. inl (inl a)) g) (λ a. inl (inr a)) h)
-      (λ x h. ⊎-elim (λ g. ⊎-elim (λ a. inl (inr a)) (λ a. inr a) g) (λ a. inl (inl a)) h);
+        let u = union-means k xs ys hx hy in
+        let v = union-means k ys zs hy hz in
+        let one = widen k (Either order xs ys) (λ x. Among x zs) _ _ u (union-means k (union-of order k xs ys) zs (u .rises) hz) in
+        let turn = like k (Either order xs (union-of order k ys zs)) (λ x. Among x (union-of order k ys zs) ⊎ Among x xs) _ (λ x h. swap (Among x xs) (Among x (union-of order k ys zs)) h) (λ x h. swap (Among x (union-of order k ys zs)) (Among x xs) h) (union-means k xs (union-of order k ys zs) hx (v .rises)) in
+        let two = widen k (Either order ys zs) (λ x. Among x xs) _ _ v turn in
+        least-same order laws k (λ x. Either order xs ys x ⊎ Among x zs) (λ x. Either order ys zs x ⊎ Among x xs) _ _ one two
+        (λ x h. ⊎-elim (λ g. ⊎-elim (λ a. inr a) (λ a. inl (inl a)) g) (λ a. inl (inr a)) h)
+        (λ x h. ⊎-elim (λ g. ⊎-elim (λ a. inl (inr a)) (λ a. inr a) g) (λ a. inl (inl a)) h);
     idem = λ k xs h le. least-same order laws k (Either order xs xs) (Either order xs xs) _ _ (union-means k xs xs h h) (own k (Either order xs xs) xs h le (λ x m. ⊎-elim (λ a. a) (λ a. a) m) (λ x m. inl m)) (λ x m. m) (λ x m. m);
     unit = λ k xs h le. least-same order laws k (Either order [] xs) (Either order [] xs) _ _ (union-means k [] xs tt h) (own k (Either order [] xs) xs h le (λ x m. ⊎-elim (λ a. absurd a) (λ a. a) m) (λ x m. inr m)) (λ x m. m) (λ x m. m);
   }

@@ -27,17 +27,40 @@ fn advance<E: Element>(a: &[E], b: &[E], i: usize, j: usize) -> Option<Step<E>>
         if j == b.len() {
             return None;
         }
-        return Some(Step { item: b[j], left: i, right: j + 1 });
+        return Some(Step {
+            item: b[j],
+            left: i,
+            right: j + 1,
+        });
     }
     if j == b.len() {
-        return Some(Step { item: a[i], left: i + 1, right: j });
+        return Some(Step {
+            item: a[i],
+            left: i + 1,
+            right: j,
+        });
     }
     let x = a[i];
     let y = b[j];
+    let left = Step {
+        item: x,
+        left: i + 1,
+        right: j,
+    };
+    let both = Step {
+        item: x,
+        left: i + 1,
+        right: j + 1,
+    };
+    let right = Step {
+        item: y,
+        left: i,
+        right: j + 1,
+    };
     match x.compare(y) {
-        Ordering::Less => Some(Step { item: x, left: i + 1, right: j }),
-        Ordering::Equal => Some(Step { item: x, left: i + 1, right: j + 1 }),
-        Ordering::Greater => Some(Step { item: y, left: i, right: j + 1 }),
+        Ordering::Less => Some(left),
+        Ordering::Equal => Some(both),
+        Ordering::Greater => Some(right),
     }
 }
 

@@ -36,6 +36,10 @@ longest = 2048
 abbrev pub overlong : Kind → Bool
 overlong k = ltb longest (k .greatest)
 
+-- what is wrong, if anything is, lies within so many bytes
+abbrev pub Inside : {A : Type 0} → ℕ → Result A DecodeFault → Type 0
+Inside n r = Cases r (λ _. Unit {0}) (λ e. e .place ≤ n)
+
 -- What every kind keeps.
 pub record Laws (k : Kind) : Type 0 where
   pub assoc : (x y z : k .Form) → k .join (k .join x y) z ≡ k .join x (k .join y z)
@@ -49,7 +53,7 @@ pub record Laws (k : Kind) : Type 0 where
   -- a frame reads back as the form that made it, so different forms have different encodings
   pub back : overlong k ≡ false → (x : k .Form) → k .decoding (k .encoding x) ≡ Ok x
   -- a fault lies within the bytes, and an overlong kind reads none
-  pub inside : (bytes : List ℕ) (e : DecodeFault) → k .decoding bytes ≡ Err e → e .place ≤ length bytes
+  pub inside : (bytes : List ℕ) → Inside (length bytes) (k .decoding bytes)
   pub shut : overlong k ≡ true → (bytes : List ℕ) → k .decoding bytes ≡ Err (fault reason.Overlong 0 (k .number))
 
 -- the length of a frame that is to be written into so many bytes, if they suffice

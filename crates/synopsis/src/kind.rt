@@ -1,6 +1,6 @@
 ghost use mathlib.Core.Path.{_≡_};
 ghost use lib.ListN.{length};
-ghost use Rattle.synopsis.specs.Kind.{Kind, Laws, frame-length, encode-answer, encode-after, Decoded};
+ghost use Rattle.synopsis.specs.Kind.{Kind, Laws, overlong, frame-length, encode-answer, encode-after, Decoded};
 use crate::fault::DecodeFault;
 use crate::fault::EncodeFault;
 use readings::Reading;
@@ -24,6 +24,13 @@ pub trait Synopsis: Sized + Drop {
     // The greatest length of an encoding; 2,049 for an overlong kind.
     fn greatest_length() -> usize
         ensures { λ r. ⌜ r ≡ kind .greatest ⌝ };
+
+    // Whether the kind has forms too long for any frame.
+    fn is_overlong() -> bool
+        ensures { λ r. ⌜ r ≡ overlong kind ⌝ }
+    {
+        Self::greatest_length() > 2048
+    }
 
     // EMPTY
     fn empty() -> Self

@@ -19,7 +19,7 @@ loop-b-again c =
     let before = from-bytes (take i bytes) in
     let lt : getD bytes i 0 < 256 = search needs in
     let step : ((before % 2 ^ 64) * 256 % 2 ^ 64 + getD bytes i 0) % 2 ^ 64 ≡ from-bytes (take (i + 1) bytes) % 2 ^ 64 =
-          push-mod before (getD bytes i 0) ∙ ap (λ (n : ℕ). n % 2 ^ 64) (sym (number-more 256 bytes i (c .loop-b-test .taken))) in
+    push-mod before (getD bytes i 0) ∙ ap (λ (n : ℕ). n % 2 ^ 64) (sym (number-more 256 bytes i (c .loop-b-test .taken))) in
     (ap (λ (n : ℕ). (n * 256 % 2 ^ 64 + getD bytes i 0) % 2 ^ 64) (c .loop-b .inv .0) ∙ step, all-more (λ b. b < 256) bytes i 0 (c .loop-b-test .taken) (c .loop-b .inv .1) lt)
 
 pub returns : need.returns

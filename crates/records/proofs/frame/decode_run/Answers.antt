@@ -33,7 +33,7 @@ mul-result g c =
     let r = header-read (c .args .kind) 0 (length out) bytes h opens in
     let w = ap (λ (k : ℕ). 4 + h .count * k) (c .width-width .ensures) in
     let cuts : items ≡ cut layout (h .count) (drop 4 bytes) =
-          c .get-all .ensures .value ∙ ap (λ (n : ℕ). cut layout n (take (h .end - 4) (drop 4 bytes))) (part-places out (h .count) (r .within)) ∙ ap (cut layout (h .count)) (rest-is bytes (h .end) (c .if-end-frame .left)) in
+    c .get-all .ensures .value ∙ ap (λ (n : ℕ). cut layout n (take (h .end - 4) (drop 4 bytes))) (part-places out (h .count) (r .within)) ∙ ap (cut layout (h .count)) (rest-is bytes (h .end) (c .if-end-frame .left)) in
     let long : length items ≡ h .count = ap length cuts ∙ length-cut layout (h .count) (drop 4 bytes) in
     let falls : Some (c .in-Some .i) ≡ first-fall order items = c .in-Some .ensures tt ∙ ap (first-fall order) (part-is-front items out (h .count) long) in
     let fits = fall-fits (c .in-Some .i) (length items) (layout .width) (c .width-width .result) (length out) (fall-inside order items (c .in-Some .i) (sym falls)) (omega (arith, long, r .within)) (c .pre .1) (c .width-width .ensures) in
@@ -52,7 +52,7 @@ add-result g c =
     let r = header-read (c .args .kind) 0 (length out) bytes h opens in
     let w = ap (λ (k : ℕ). 4 + h .count * k) (c .width-width .ensures) in
     let cuts : items ≡ cut layout (h .count) (drop 4 bytes) =
-          c .get-all .ensures .value ∙ ap (λ (n : ℕ). cut layout n (take (h .end - 4) (drop 4 bytes))) (part-places out (h .count) (r .within)) ∙ ap (cut layout (h .count)) (rest-is bytes (h .end) (c .if-end-frame .left)) in
+    c .get-all .ensures .value ∙ ap (λ (n : ℕ). cut layout n (take (h .end - 4) (drop 4 bytes))) (part-places out (h .count) (r .within)) ∙ ap (cut layout (h .count)) (rest-is bytes (h .end) (c .if-end-frame .left)) in
     let long : length items ≡ h .count = ap length cuts ∙ length-cut layout (h .count) (drop 4 bytes) in
     let falls : Some (c .in-Some .i) ≡ first-fall order items = c .in-Some .ensures tt ∙ ap (first-fall order) (part-is-front items out (h .count) long) in
     let fits = fall-fits (c .in-Some .i) (length items) (layout .width) (c .width-width .result) (length out) (fall-inside order items (c .in-Some .i) (sym falls)) (omega (arith, long, r .within)) (c .pre .1) (c .width-width .ensures) in
@@ -70,7 +70,7 @@ returns-in-Some g c =
     let r = header-read (c .args .kind) 0 (length out) bytes h opens in
     let w = ap (λ (k : ℕ). 4 + h .count * k) (c .width-width .ensures) in
     let cuts : items ≡ cut layout (h .count) (drop 4 bytes) =
-          c .get-all .ensures .value ∙ ap (λ (n : ℕ). cut layout n (take (h .end - 4) (drop 4 bytes))) (part-places out (h .count) (r .within)) ∙ ap (cut layout (h .count)) (rest-is bytes (h .end) (c .if-end-frame .left)) in
+    c .get-all .ensures .value ∙ ap (λ (n : ℕ). cut layout n (take (h .end - 4) (drop 4 bytes))) (part-places out (h .count) (r .within)) ∙ ap (cut layout (h .count)) (rest-is bytes (h .end) (c .if-end-frame .left)) in
     let long : length items ≡ h .count = ap length cuts ∙ length-cut layout (h .count) (drop 4 bytes) in
     let falls : Some (c .in-Some .i) ≡ first-fall order items = c .in-Some .ensures tt ∙ ap (first-fall order) (part-is-front items out (h .count) long) in
     reads-fall (c .args .kind) (length out) layout order bytes h opens (c .if-end-frame .left) (c .if-end-count .left ∙ w) items cuts (c .in-Some .i) falls
@@ -88,16 +88,17 @@ returns-in-None g c =
     let r = header-read (c .args .kind) 0 (length out) bytes h opens in
     let w = ap (λ (k : ℕ). 4 + h .count * k) (c .width-width .ensures) in
     let cuts : items ≡ cut layout (h .count) (drop 4 bytes) =
-          c .get-all .ensures .value ∙ ap (λ (n : ℕ). cut layout n (take (h .end - 4) (drop 4 bytes))) (part-places out (h .count) (r .within)) ∙ ap (cut layout (h .count)) (rest-is bytes (h .end) (c .if-end-frame .left)) in
+    c .get-all .ensures .value ∙ ap (λ (n : ℕ). cut layout n (take (h .end - 4) (drop 4 bytes))) (part-places out (h .count) (r .within)) ∙ ap (cut layout (h .count)) (rest-is bytes (h .end) (c .if-end-frame .left)) in
     let long : length items ≡ h .count = ap length cuts ∙ length-cut layout (h .count) (drop 4 bytes) in
     let none : None ≡ first-fall order items = c .in-None .ensures tt ∙ ap (first-fall order) (part-is-front items out (h .count) long) in
     let front = front-is items out (h .count) long in
     let back : joined (layout .written) items ≡ drop 4 bytes = c .get-all .ensures .back ∙ rest-is bytes (h .end) (c .if-end-frame .left) in
     let low : getD bytes 3 0 < 256 = c .typed .frame 3 .fits in
     let reads = reads-run (c .args .kind) (length out) layout order bytes h opens (c .if-end-frame .left) (c .if-end-count .left ∙ w) items cuts none in
-    let frame = frame-back (c .args .kind) (length out) layout order bytes h r low (c .if-end-count .left ∙ w) items long back in
-    (r .within,
+    let frame = frame-back (c .args .kind) (length out) layout order bytes h r low (c .if-end-count .left ∙ w) items long back in (
+      r .within,
       reads ∙ ap (λ (xs : List _). Ok (as-run order (length out) xs)) (sym front),
       subst (λ (xs : List _). T (rising order xs)) (sym front) (rising-if-none order items (sym none)),
       ap (frame-of (c .args .kind) layout) front ∙ frame,
-      behind-is items out (h .count) long)
+      behind-is items out (h .count) long,
+    )

@@ -36,14 +36,14 @@ returns g c =
     let le : length frame ≤ length out = omega (arith, c .if-out-end .left, long, w) in
     let end : 4 + length items * c .width .result ≡ length frame = omega (arith, long, w) in
     let h : c .copy-from-slice .last .self ≡ header =
-          c .copy-from-slice .ensures .after ∙ c .header-bytes-header .ensures ∙ ap (λ (n : ℕ). header-bytes (c .args .kind) (length items) (4 + n)) w in
+    c .copy-from-slice .ensures .after ∙ c .header-bytes-header .ensures ∙ ap (λ (n : ℕ). header-bytes (c .args .kind) (length items) (4 + n)) w in
     let b : c .put-all .last .out ≡ joined (layout .written) items = c .put-all .ensures in
     let body : 4 + length (c .put-all .last .out) ≡ 4 + length items * c .width .result = omega (arith, ap length b, long, w) in
     record {
       answer = ap Ok end ∙ fitted-so frame (length out) le;
       after = framed (c .copy-from-slice .last .self) (c .put-all .last .out) out (4 + length items * c .width .result) _ (ap length h) body refl
-        ∙ ap (λ (n : ℕ). (c .copy-from-slice .last .self ++ c .put-all .last .out) ++ drop n out) end
-        ∙ ap (λ (l : List ℕ). (l ++ c .put-all .last .out) ++ drop (length frame) out) h
-        ∙ ap (λ (l : List ℕ). (header ++ l) ++ drop (length frame) out) b
-        ∙ over-so frame out le;
+          ∙ ap (λ (n : ℕ). (c .copy-from-slice .last .self ++ c .put-all .last .out) ++ drop n out) end
+          ∙ ap (λ (l : List ℕ). (l ++ c .put-all .last .out) ++ drop (length frame) out) h
+          ∙ ap (λ (l : List ℕ). (header ++ l) ++ drop (length frame) out) b
+          ∙ over-so frame out le;
     }

@@ -39,12 +39,13 @@ loop-i-again g c =
     let got = c .get .ensures (part-length bytes at (layout .width) (c .width-width .result) w (r .0)) in
     let part = part-is bytes at (layout .width) (c .width-width .result) w in
     let next : take (i + 1) (set (c .loop-i .out) i x) ++ cut layout (n - (i + 1)) (drop (at + layout .width) bytes) ≡ cut layout n bytes =
-          cut-step layout (c .loop-i .out) bytes i at n x lt (sym (c .loop-i .kept .out)) (c .loop-i .inv .1) (got .0 ∙ ap (layout .read) part) in
+    cut-step layout (c .loop-i .out) bytes i at n x lt (sym (c .loop-i .kept .out)) (c .loop-i .inv .1) (got .0 ∙ ap (layout .read) part) in
     let back : joined (layout .written) (take (i + 1) (set (c .loop-i .out) i x)) ≡ take (at + layout .width) bytes =
-          back-step layout (c .loop-i .out) bytes i at x lt (c .loop-i .inv .2) (got .1 ∙ part) in
-    (ap (λ (k : ℕ). at + k + (n - (i + 1)) * layout .width) w ∙ r .1,
+    back-step layout (c .loop-i .out) bytes i at x lt (c .loop-i .inv .2) (got .1 ∙ part) in (
+      ap (λ (k : ℕ). at + k + (n - (i + 1)) * layout .width) w ∙ r .1,
       ap (λ (k : ℕ). take (i + 1) (set (c .loop-i .out) i x) ++ cut layout (n - (i + 1)) (drop (at + k) bytes)) w ∙ next,
-      back ∙ ap (λ (k : ℕ). take (at + k) bytes) (sym w))
+      back ∙ ap (λ (k : ℕ). take (at + k) bytes) (sym w),
+    )
 
 pub loop-i-holds : need.loop-i-holds
 loop-i-holds g c =

@@ -13,6 +13,6 @@ returns c =
     let run = c .joined-joined .result in
     kept-form (run .row) (run .kept)
     ∙ ap (as-run by-size 64)
-      (c .joined-joined .ensures
-      ∙ ap (λ (l : List ℕ). union-of by-size 64 l (counted (c .of-2 .result .row))) (c .of .ensures)
-      ∙ ap (λ (l : List ℕ). union-of by-size 64 (least-form (c .args .self .now) .items) l) (c .of-2 .ensures))
+    (c .joined-joined .ensures
+    ∙ ap (λ (l : List ℕ). union-of by-size 64 l (counted (c .of-2 .result .row))) (c .of .ensures)
+    ∙ ap (λ (l : List ℕ). union-of by-size 64 (least-form (c .args .self .now) .items) l) (c .of-2 .ensures))

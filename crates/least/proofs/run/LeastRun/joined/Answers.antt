@@ -17,7 +17,7 @@ ghost-result c =
     let b = c .args .other .now in
     let e = c .union-count .ensures in
     let up : (xs ys : List ℕ) → xs ≡ counted (a .row) → ys ≡ counted (b .row) → T (rising by-size xs) × T (rising by-size ys) = λ xs ys p q.
-          (subst (λ (l : List ℕ). T (rising by-size l)) (sym p) (counted-rises (a .row) (a .kept)), subst (λ (l : List ℕ). T (rising by-size l)) (sym q) (counted-rises (b .row) (b .kept))) in
+    (subst (λ (l : List ℕ). T (rising by-size l)) (sym p) (counted-rises (a .row) (a .kept)), subst (λ (l : List ℕ). T (rising by-size l)) (sym q) (counted-rises (b .row) (b .kept))) in
     let both = up (c .as-slice .result .now) (c .as-slice-2 .result .now) (c .as-slice .ensures) (c .as-slice-2 .ensures) in
     let least = e .least (both .0) (both .1) in
     let long : length (c .union-count .last .out) ≡ 64 = search needs in
