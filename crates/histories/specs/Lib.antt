@@ -1,0 +1,4 @@
+pub mod Deeds
+pub mod Paths
+pub mod Search
+pub mod Folds
