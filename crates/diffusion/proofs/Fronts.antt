@@ -9,7 +9,7 @@ use lib.Dec.{T, ltb, leb}
 use lib.ListN.{length, getD, set, take, drop}
 use Rattle.std.specs.declared.result.Result.{Result}
 use Rattle.std.specs.declared.result.Result.the-variants.{Ok, Err}
-use Rattle.std.proofs.shelf.Lists.{take-append-drop, getD-take, set-append-left, length-take, length-take-le, take-take, drop-take, drop-append-le, append-assoc}
+use Rattle.std.proofs.shelf.Lists.{take-append-drop, getD-take, set-append-left, length-take, take-take, drop-append-le, append-assoc}
 use Rattle.std.proofs.shelf.Tests.{cases-lt, le-leb, leb-false, ltb-false, or-parts, cond-true}
 use Rattle.synopsis.specs.Kind.{Kind, Laws, overlong}
 use Rattle.histories.specs.declared.Call.{Call}
@@ -20,6 +20,7 @@ use Rattle.network.specs.declared.fault.NetworkFault.the-variants.{Brought, Ove
 use Rattle.network.specs.declared.slot.Slot.{Slot}
 use Rattle.network.specs.declared.slot.Slot.the-variants.{Free, Filled}
 use Rattle.network.specs.Calls.{unless, ready, no-node, beyond, slot-start, slot-frame, no-slot, placed, switched, read-answer, deliver-answer}
+use Rattle.diffusion.proofs.Lying.{front-frame}
 use Rattle.diffusion.specs.Turns.{Told, done, bytes, refused, is-accepted, plainly, with-bytes, State, form-of, call-tells, fused, call-leaves}
 
 -- an accepted answer met none of the refusals
@@ -59,16 +60,6 @@ front-placed memory frame m at le within =
     ∙ ap (λ (l : List ℕ). take at (take m memory) ++ l) (append-assoc frame (drop (at + length frame) (take m memory)) (drop m memory))
     ∙ ap (λ (l : List ℕ). take at (take m memory) ++ (frame ++ l)) (front-rest (at + length frame) m memory le within)
     ∙ ap (λ (l : List ℕ). l ++ (frame ++ drop (at + length frame) memory)) (take-take at m memory low)
-
-pub front-part : (memory : List ℕ) (m at n : ℕ) → at + n ≤ m → take n (drop at (take m memory)) ≡ take n (drop at memory)
-front-part memory m at n le =
-    let j : at + (m - at) ≡ m = omega arith in
-    let short : n ≤ m - at = omega arith in
-    ap (λ (i : ℕ). take n (drop at (take i memory))) (sym j) ∙ ap (take n) (drop-take at (m - at) memory) ∙ take-take n (m - at) (drop at memory) short
-
-pub front-frame : (memory : List ℕ) (m s : ℕ) (slot : Slot) → s < 32 → 65536 ≤ m → slot-frame (take m memory) s slot ≡ slot-frame memory s slot
-front-frame memory m s Free lt le = refl
-front-frame memory m s (Filled sender n) lt le = front-part memory m (slot-start s) (min n 2048) (omega arith)
 
 module _ (k : Kind) (laws : Laws k) (st : State k) (v m : ℕ) (values : v ≤ length (st .forms)) (room : m ≤ length (st .memory)) where
   -- what the turn is brought
@@ -144,6 +135,6 @@ module _ (k : Kind) (laws : Laws k) (st : State k) (v m : ℕ) (values : v ≤ l
       let a = ready-on k st v m _ q in
       let c = slot-on k st v m s _ (a .3) in
       let b = node-on k st v m n _ (c .1) in
-      ap (λ (l : List ℕ). whole (fused k front n (read-as k (k .decoding l)))) (front-frame (st .memory) m s (getD (st .net .slots) s no-slot) (c .0) (a .1)) ∙ fused-front n _ (omega arith)
+      ap (λ (l : List ℕ). whole (fused k front n (read-as k (k .decoding l)))) (front-frame (st .memory) m s (getD (st .net .slots) s no-slot) (c .0) (a .1) room) ∙ fused-front n _ (omega arith)
   front-leaves (Drop s) q = λ i. record { net = switched (st .net) s Free; forms = take-append-drop v (st .forms) i; memory = take-append-drop m (st .memory) i }
   front-leaves (Read n wanted) q = front-same

@@ -1,7 +1,7 @@
 pub mod Making
-pub mod Fronts
 pub mod Lying
-pub mod Keeping
-pub mod Promising
+pub mod Fronts
 pub mod Gluing
 pub mod Running
+pub mod Keeping
+pub mod Promising

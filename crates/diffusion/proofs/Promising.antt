@@ -14,7 +14,7 @@ use Rattle.histories.specs.Deeds.{deed, History}
 use Rattle.histories.proofs.Finding.{found, complete, filled-found, filled-complete}
 use Rattle.histories.proofs.Folding.{arranged-is, same-gifts}
 use Rattle.diffusion.specs.Turns.{Told, is-accepted, State, turn-tells, call-leaves, turn-leaves, Ran, opened, then}
-use Rattle.diffusion.specs.Owed.{Answered, none, more}
+use Rattle.diffusion.specs.Owed.{Answered, due, more, none, owes, past}
 use Rattle.diffusion.specs.Promise.{Kept, Promise}
 use Rattle.diffusion.proofs.Keeping.{Holding, holding-opened, tells-owes, turn-holds}
 
@@ -29,6 +29,22 @@ module _ (k : Kind) (laws : Laws k) (nodes : ℕ) where
   answered (opened o) = none
   answered (then {ts = ts} {ws = ws} {h = h} {st = st} ran t) =
       subst (λ (w : Told). Answered k nodes (ts ++ t ∷ []) (ws ++ w ∷ []) (deed (t .call) (is-accepted w) ∷ h)) (sym (tells-owes k laws nodes h st (holding ran) t)) (more (answered ran) t)
+
+  -- one turn more, computed
+  past-more : (h : History) (ts : List Turn) (t : Turn) → past k nodes h (ts ++ t ∷ []) ≡ deed (t .call) (is-accepted (owes k nodes (past k nodes h ts) t)) ∷ past k nodes h ts
+  past-more h [] t = refl
+  past-more h (u ∷ ts) t = past-more (deed (u .call) (is-accepted (owes k nodes h u)) ∷ h) ts t
+
+  due-more : (h : History) (ts : List Turn) (t : Turn) → due k nodes h (ts ++ t ∷ []) ≡ due k nodes h ts ++ owes k nodes (past k nodes h ts) t ∷ []
+  due-more h [] t = refl
+  due-more h (u ∷ ts) t = ap (λ (l : List Told). owes k nodes h u ∷ l) (due-more (deed (u .call) (is-accepted (owes k nodes h u)) ∷ h) ts t)
+
+  computed : {ts : List Turn} {ws : List Told} {h : History} → Answered k nodes ts ws h → (ws ≡ due k nodes [] ts) × (h ≡ past k nodes [] ts)
+  computed none = (refl, refl)
+  computed (more {ts = ts} {ws = ws} {h = h} a t) =
+      let c = computed a in
+      (ap (λ (l : List Told). l ++ owes k nodes h t ∷ []) (c .0) ∙ ap (λ (g : History). due k nodes [] ts ++ owes k nodes g t ∷ []) (c .1) ∙ sym (due-more [] ts t),
+        ap (λ (g : History). deed (t .call) (is-accepted (owes k nodes g t)) ∷ g) (c .1) ∙ sym (past-more [] ts t))
 
   -- every turn told one answer
   as-many : {ts : List Turn} {ws : List Told} {h : History} {st : State k} → Ran k nodes ts ws h st → length ts ≡ length ws
@@ -69,6 +85,7 @@ module _ (k : Kind) (laws : Laws k) (nodes : ℕ) where
       let on = holding ran in
       record {
         answers = answered ran;
+        computed = computed (answered ran) .0;
         found = found h;
         complete = λ n t. complete h n t (on .sound);
         sent = filled-found h;

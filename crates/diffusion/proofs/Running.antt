@@ -15,19 +15,16 @@ use Rattle.histories.specs.declared.Turn.{Turn}
 use Rattle.histories.specs.Deeds.{History, deed}
 use Rattle.network.specs.declared.fault.NetworkFault.{NetworkFault}
 use Rattle.network.specs.declared.table.Network.{Network}
-use Rattle.network.specs.Calls.{unless, open-answer, opened-network, Emptied}
+use Rattle.network.proofs.Refusing.{not-refused}
+use Rattle.network.specs.Calls.{open-answer, opened-network, Emptied}
 use Rattle.diffusion.specs.declared.answer.Answer.{Answer}
 use Rattle.diffusion.specs.Turns.{Told, is-accepted, tells, State, state-of, turn-tells, turn-leaves, Opened, Ran, opened, then, Made}
 
-passed : (b : Bool) (e : NetworkFault) (rest : Result (Unit {0}) NetworkFault) → Ok tt ≡ unless b e rest → (b ≡ false) × (Ok tt ≡ rest)
-passed true e rest q = let z : _≡_ {A = ℕ} 0 1 = cc in absurd (omega arith)
-passed false e rest q = (refl, q)
-
 pub opened-state : {S : Type 0} (k : Kind) (form : S → k .Form) (nodes : ℕ) (net : Network) (before after : List S) (memory : List ℕ) → Ok tt ≡ open-answer k nodes (length before) (length memory) → net ≡ opened-network nodes → Emptied form (k .none) before after nodes → Opened k nodes (state-of k form net after memory)
 opened-state k form nodes net before after memory q table e =
-    let a = passed (ltb nodes 1 || ltb 16 nodes) _ _ q in
-    let b = passed (ltb (length before) nodes || ltb (length memory) 65536) _ _ (a .1) in
-    let c = passed (overlong k) _ _ (b .1) in
+    let a = not-refused (ltb nodes 1 || ltb 16 nodes) _ _ q in
+    let b = not-refused (ltb (length before) nodes || ltb (length memory) 65536) _ _ (a .1) in
+    let c = not-refused (overlong k) _ _ (b .1) in
     let count = or-parts (ltb nodes 1) (ltb 16 nodes) (a .0) in
     let brought = or-parts (ltb (length before) nodes) (ltb (length memory) 65536) (b .0) in
     let enough = ltb-false (length before) nodes (brought .0) in

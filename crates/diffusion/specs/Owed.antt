@@ -48,3 +48,12 @@ module _ (k : Kind) (nodes : ℕ) where
   pub data Answered : List Turn → List Told → History → Type 0 where
     none : Answered [] [] []
     more : {ts : List Turn} {ws : List Told} {h : History} → Answered ts ws h → (t : Turn) → Answered (ts ++ t ∷ []) (ws ++ owes h t ∷ []) (deed (t .call) (is-accepted (owes h t)) ∷ h)
+
+  -- the same, computed: the history after some turns, and all their answers
+  abbrev pub past : History → List Turn → History
+  past h [] = h
+  past h (t ∷ ts) = past (deed (t .call) (is-accepted (owes h t)) ∷ h) ts
+
+  abbrev pub due : History → List Turn → List Told
+  due h [] = []
+  due h (t ∷ ts) = owes h t ∷ due (deed (t .call) (is-accepted (owes h t)) ∷ h) ts

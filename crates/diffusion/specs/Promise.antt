@@ -1,6 +1,6 @@
 -- The promise over runs, for one kind: of every network of it, every node count and every list of turns.
 use mathlib.Core.Path.{_≡_}
-use mathlib.Core.List.{List}
+use mathlib.Core.List.{List, []}
 use mathlib.Core.Bool.{true, false}
 use Prim.Native.Nat.{ℕ, _≤_, _<_}
 use lib.ListN.{length, getD, take}
@@ -13,13 +13,15 @@ use Rattle.histories.specs.Folds.{node-form, slot-form, Came, Arranged}
 use Rattle.network.specs.declared.fault.NetworkFault.{NetworkFault}
 use Rattle.network.specs.Calls.{is-filled, slot-frame, no-slot}
 use Rattle.diffusion.specs.Turns.{Told, refused, State, form-of, turn-tells, turn-leaves, Ran}
-use Rattle.diffusion.specs.Owed.{Answered}
+use Rattle.diffusion.specs.Owed.{Answered, due}
 
 module _ (k : Kind) where
   -- what is promised of one run, after all of its turns
   pub record Kept (nodes : ℕ) (ts : List Turn) (ws : List Told) (h : History) (st : State k) : Type 0 where
     -- every answer is exactly what the history before its turn owes
     pub answers : Answered k nodes ts ws h
+    -- so that they can be computed from the turns alone
+    pub computed : ws ≡ due k nodes [] ts
     -- a contribution reaches a node in the search exactly where it has a delivered path there
     pub found : (n t : ℕ) → reaches h n t ≡ true → Reaches h t n
     pub complete : (n t : ℕ) → Reaches h t n → reaches h n t ≡ true

@@ -1,6 +1,7 @@
 // The proved table of worked numbers.
 ghost use mathlib.Core.Path.{_≡_};
 ghost use mathlib.Core.List.{[], _∷_};
+ghost use Rattle.figures.specs.Example.{Example};
 ghost use Rattle.figures.specs.Figures.{Figures};
 use readings::mark;
 use readings::mix;
@@ -16,10 +17,11 @@ pub struct Computed {
     pub two_least: [u64; 2],
 }
 
-// The calls give the table's numbers, and the definitions give all of them.
+// The calls give the table's numbers, and the definitions give all of them, and the answers of the worked turns.
 pub fn figures() -> Computed
     ensures calls { λ r. ⌜ r ≡ record { «hash_of_0» = 0xE220A8397B1DCDAF; «mark_of_that» = (47, 1); «mark_of_0» = (0, 31); «two_least» = 1 ∷ 2 ∷ [] } ⌝ }
     ensures definitions { λ _. ⌜ Figures ⌝ }
+    ensures example { λ _. ⌜ Example ⌝ }
 {
     let mut two_least = [0; 2];
     let _ = union(&[1, 3], &[2, 3], &mut two_least);

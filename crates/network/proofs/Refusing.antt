@@ -23,7 +23,8 @@ use Rattle.network.specs.Calls.{unless, ready, no-node, beyond, memory-bytes, 
 pub unless-not : {A : Type 0} (b : Bool) (e : NetworkFault) (rest : Result A NetworkFault) → b ≡ false → unless b e rest ≡ rest
 unless-not b e rest f = cond-false b (Err e) rest f
 
-not-refused : (b : Bool) (e : NetworkFault) (rest : Result (Unit {0}) NetworkFault) → Ok tt ≡ unless b e rest → (b ≡ false) × (Ok tt ≡ rest)
+-- an accepted answer met no refusal
+pub not-refused : (b : Bool) (e : NetworkFault) (rest : Result (Unit {0}) NetworkFault) → Ok tt ≡ unless b e rest → (b ≡ false) × (Ok tt ≡ rest)
 not-refused true e rest q = let z : _≡_ {A = ℕ} 0 1 = cc in absurd (omega arith)
 not-refused false e rest q = (refl, q)
 

@@ -7,6 +7,7 @@ use Rattle.std.proofs.shelf.Lists.{take-all}
 use Rattle.readings.specs.Readings.{mark-of}
 use Rattle.figures.specs.declared.Computed.{Computed}
 use Rattle.figures.proofs.Table.{table}
+use Rattle.figures.proofs.Worked.{worked}
 use Rattle.figures.proofs.figures.Needs as need
 
 pub returns : need.returns
@@ -20,4 +21,5 @@ returns c =
     record {
       calls = λ i. record { «hash_of_0» = hash i; «mark_of_that» = mark i; «mark_of_0» = zero i; «two_least» = two i };
       definitions = table;
+      example = worked;
     }
