@@ -42,9 +42,10 @@ module _ (k : Kind) (laws : Laws k) (nodes : ℕ) where
   computed : {ts : List Turn} {ws : List Told} {h : History} → Answered k nodes ts ws h → (ws ≡ due k nodes [] ts) × (h ≡ past k nodes [] ts)
   computed none = (refl, refl)
   computed (more {ts = ts} {ws = ws} {h = h} a t) =
-      let c = computed a in
-      (ap (λ (l : List Told). l ++ owes k nodes h t ∷ []) (c .0) ∙ ap (λ (g : History). due k nodes [] ts ++ owes k nodes g t ∷ []) (c .1) ∙ sym (due-more [] ts t),
-        ap (λ (g : History). deed (t .call) (is-accepted (owes k nodes g t)) ∷ g) (c .1) ∙ sym (past-more [] ts t))
+      let c = computed a in (
+        ap (λ (l : List Told). l ++ owes k nodes h t ∷ []) (c .0) ∙ ap (λ (g : History). due k nodes [] ts ++ owes k nodes g t ∷ []) (c .1) ∙ sym (due-more [] ts t),
+        ap (λ (g : History). deed (t .call) (is-accepted (owes k nodes g t)) ∷ g) (c .1) ∙ sym (past-more [] ts t),
+      )
 
   -- every turn told one answer
   as-many : {ts : List Turn} {ws : List Told} {h : History} {st : State k} → Ran k nodes ts ws h st → length ts ≡ length ws

@@ -16,4 +16,4 @@ full values long upper =
 
 pub table : Figures
 unfolding trailingZeros
-table = record { hash-of-0 = refl; mark-of-that = refl; mark-of-0 = refl; two-least = refl; empty-frame = refl; one-reading = refl; full-run = full }
+table = record { hash-of-0 = refl; mark-of-that = refl; mark-of-0 = refl; two-least = refl; empty-frame = refl; one-reading = refl; empty-pair = refl; full-run = full }

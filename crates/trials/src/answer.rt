@@ -165,7 +165,7 @@ fn answer(heap: Global, case: &Case) -> Result<String, AllocError> {
 }
 
 // The answer to a line.
-pub fn to_line(heap: Global, line: &str) -> Result<String, AllocError> {
+pub(crate) fn to_line(heap: Global, line: &str) -> Result<String, AllocError> {
     match case::read(heap, line) {
         Ok(found) => answer(heap, &found),
         Err(Fault::Form) => String::from_str(heap, "bad line"),

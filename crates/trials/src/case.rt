@@ -119,7 +119,7 @@ fn with_three(
 }
 
 // The case that a line writes.
-pub fn read(heap: Global, line: &str) -> Result<Case, Fault> {
+pub(crate) fn read(heap: Global, line: &str) -> Result<Case, Fault> {
     let fields: Vec<&str> = line.split(' ').collect(heap)?;
     match fields.as_slice() {
         ["kind"] => Ok(Case::Kind),

@@ -9,7 +9,7 @@ use std::alloc::Global;
 use synopsis::kind::Synopsis;
 
 // A single byte.
-pub fn one_byte(heap: Global, text: &str) -> Result<u8, Fault> {
+pub(crate) fn one_byte(heap: Global, text: &str) -> Result<u8, Fault> {
     match bytes(heap, text)?.as_slice() {
         [byte] => Ok(*byte),
         _ => Err(Fault::Form),
@@ -17,7 +17,7 @@ pub fn one_byte(heap: Global, text: &str) -> Result<u8, Fault> {
 }
 
 // A word of 8 bytes.
-pub fn word(heap: Global, text: &str) -> Result<u64, Fault> {
+pub(crate) fn word(heap: Global, text: &str) -> Result<u64, Fault> {
     let found = bytes(heap, text)?;
     match <[u8; 8]>::try_from(found.as_slice()) {
         Ok(array) => Ok(u64::from_be_bytes(array)),
@@ -26,7 +26,7 @@ pub fn word(heap: Global, text: &str) -> Result<u64, Fault> {
 }
 
 // A decimal number with no needless leading zero.
-pub fn number(text: &str) -> Result<u64, Fault> {
+pub(crate) fn number(text: &str) -> Result<u64, Fault> {
     match text.as_bytes() {
         [b'0'] | [b'1'..=b'9', ..] => {}
         _ => return Err(Fault::Form),
@@ -38,7 +38,7 @@ pub fn number(text: &str) -> Result<u64, Fault> {
 }
 
 // A number that is at most `most`.
-pub fn up_to(most: u64, text: &str) -> Result<u64, Fault>
+pub(crate) fn up_to(most: u64, text: &str) -> Result<u64, Fault>
     ensures { λ r. ⌜ made r (λ n. n ≤ most) ⌝ }
 {
     let found = number(text)?;
@@ -49,7 +49,7 @@ pub fn up_to(most: u64, text: &str) -> Result<u64, Fault>
 }
 
 // What a frame holds.
-pub fn value(heap: Global, text: &str) -> Result<LeastValues, Fault> {
+pub(crate) fn value(heap: Global, text: &str) -> Result<LeastValues, Fault> {
     let found = bytes(heap, text)?;
     let mut value = LeastValues::empty();
     match value.decode(found.as_slice()) {
@@ -59,7 +59,7 @@ pub fn value(heap: Global, text: &str) -> Result<LeastValues, Fault> {
 }
 
 // The places of a row: 8 bytes each, and zeros after them.
-pub fn places(heap: Global, text: &str) -> Result<[u64; 64], Fault> {
+pub(crate) fn places(heap: Global, text: &str) -> Result<[u64; 64], Fault> {
     let found = bytes(heap, text)?;
     let mut places = [0; 64];
     for (i, part) in found.as_slice().chunks(8).enumerate() {

@@ -16,7 +16,7 @@ pub struct Frame {
 
 impl Frame {
     // No bytes where none are written.
-    pub fn of(value: &LeastValues) -> Frame {
+    pub(crate) fn of(value: &LeastValues) -> Frame {
         let mut room = [0; ROOM];
         match value.encode(&mut room) {
             Ok(length) => Frame { room, length },
@@ -24,7 +24,7 @@ impl Frame {
         }
     }
 
-    pub fn bytes(&self) -> &[u8] {
+    pub(crate) fn bytes(&self) -> &[u8] {
         let all = &self.room[..];
         if self.length > all.len() {
             return all;

@@ -37,7 +37,7 @@ fn byte(high: u8, low: u8) -> Option<u8> {
 }
 
 // The bytes that a text shows.
-pub fn bytes(heap: Global, text: &str) -> Result<Vec<u8>, Fault> {
+pub(crate) fn bytes(heap: Global, text: &str) -> Result<Vec<u8>, Fault> {
     let mut found = Vec::new(heap);
     if text == "-" {
         return Ok(found);

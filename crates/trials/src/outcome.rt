@@ -52,12 +52,12 @@ fn at_place(before: &LeastValues, bytes: &[u8]) -> Outcome {
 }
 
 // A run of two values.
-pub fn two_values() -> LeastValues {
+pub(crate) fn two_values() -> LeastValues {
     joined(&single(1), &single(2))
 }
 
 // What becomes of bytes at a place that holds a run, and at one that holds a row that is no run.
-pub fn decoded(bytes: &[u8]) -> Outcome {
+pub(crate) fn decoded(bytes: &[u8]) -> Outcome {
     let no_run = LeastValues {
         count: 65,
         values: [7; 64],

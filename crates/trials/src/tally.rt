@@ -16,7 +16,7 @@ pub struct Tally {
 }
 
 impl Tally {
-    pub fn new(heap: Global) -> Tally {
+    pub(crate) fn new(heap: Global) -> Tally {
         Tally {
             text: String::new(heap),
             last: Outcome::Apart,
@@ -34,7 +34,7 @@ impl Tally {
     }
 
     // Counts what becomes of these bytes.
-    pub fn add(&mut self, heap: Global, bytes: &[u8]) -> Result<(), AllocError> {
+    pub(crate) fn add(&mut self, heap: Global, bytes: &[u8]) -> Result<(), AllocError> {
         let next = decoded(bytes);
         if self.count > 0 && next != self.last {
             self.settle(heap)?;
@@ -46,7 +46,7 @@ impl Tally {
     }
 
     // All that was counted.
-    pub fn end(mut self, heap: Global) -> Result<String, AllocError> {
+    pub(crate) fn end(mut self, heap: Global) -> Result<String, AllocError> {
         self.settle(heap)?;
         Ok(self.text)
     }

@@ -7,7 +7,7 @@ use readings::Reading;
 use synopsis::kind::Synopsis;
 
 // The value of a reading of this item.
-pub fn single(item: u64) -> LeastValues {
+pub(crate) fn single(item: u64) -> LeastValues {
     LeastValues::make(Reading {
         tenant: 0,
         item,
@@ -16,7 +16,7 @@ pub fn single(item: u64) -> LeastValues {
 }
 
 // The join of two values.
-pub fn joined(one: &LeastValues, other: &LeastValues) -> LeastValues
+pub(crate) fn joined(one: &LeastValues, other: &LeastValues) -> LeastValues
     ensures { λ r. ⌜ least-form r ≡ least-kind .join (least-form (now (one .entry))) (least-form (now (other .entry))) ⌝ }
 {
     let mut both = *one;
@@ -25,7 +25,7 @@ pub fn joined(one: &LeastValues, other: &LeastValues) -> LeastValues
 }
 
 // The row 0, 1, .. 62 and `last`, with all places in use.
-pub fn full(last: u64) -> LeastValues
+pub(crate) fn full(last: u64) -> LeastValues
     ensures { λ r. ⌜ r .count ≡ 64 ⌝ }
 {
     let mut values = [0; 64];

@@ -1,0 +1,2 @@
+// Synopses made of other synopses.
+pub mod pair;
