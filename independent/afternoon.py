@@ -8,8 +8,9 @@ import sys
 from pathlib import Path
 
 import least
+from stored import write_or_compare
 
-STORED = Path(__file__).resolve().parent.parent / "crates" / "afternoon" / "stdout"
+FOLDER = Path(__file__).resolve().parent.parent / "crates" / "afternoon"
 SLOTS = 32
 SLOT_FREE = 6
 SLOT_FILLED = 7
@@ -172,21 +173,12 @@ def afternoon():
 
 
 def transcript():
-    lines = ["An example: a slot holds what was sent."] + example() + ["The afternoon."] + afternoon()
-    return "".join(line + "\n" for line in lines)
+    return ["An example: a slot holds what was sent."] + example() + ["The afternoon."] + afternoon()
 
 
-def main(words):
-    text = transcript()
-    if words == ["--check"]:
-        if STORED.read_text() != text:
-            sys.exit(f"{STORED.name} differs from what the rules give")
-        print("the stored transcript is what the rules give")
-    elif not words:
-        STORED.write_text(text)
-    else:
-        sys.exit(__doc__)
+def main(arguments):
+    return write_or_compare(FOLDER, {"stdout": transcript()}, arguments, __doc__)
 
 
 if __name__ == "__main__":
-    main(sys.argv[1:])
+    sys.exit(main(sys.argv[1:]))

@@ -12,6 +12,7 @@ from pathlib import Path
 sys.dont_write_bytecode = True
 
 from answers import answer, shown
+from stored import write_or_compare
 
 TRIALS = Path(__file__).resolve().parent.parent / "crates" / "trials"
 TOP = 2**64 - 1
@@ -426,22 +427,7 @@ def main(arguments):
             print(f"{len(cases):6} {name}")
         print(f"{len(lines):6} in all")
         return 0
-    if arguments not in ([], ["--check"]):
-        print(__doc__)
-        return 2
-    behind = 0
-    for name, texts in made.items():
-        path, data = TRIALS / name, "".join(text + "\n" for text in texts).encode()
-        if not arguments:
-            path.parent.mkdir(parents=True, exist_ok=True)
-            path.write_bytes(data)
-            print(f"{path.name}: {len(texts)} lines, {len(data)} bytes")
-        elif not path.is_file() or path.read_bytes() != data:
-            print(f"{path.name} differs from what the rules give")
-            behind += 1
-        else:
-            print(f"{path.name} agrees: {len(texts)} lines")
-    return 1 if behind else 0
+    return write_or_compare(TRIALS, made, arguments, __doc__)
 
 
 if __name__ == "__main__":

@@ -8,8 +8,9 @@ import sys
 from pathlib import Path
 
 import least
+from stored import write_or_compare
 
-STORED = Path(__file__).resolve().parent.parent / "crates" / "exchange" / "stdout"
+FOLDER = Path(__file__).resolve().parent.parent / "crates" / "exchange"
 
 
 def shown(frame):
@@ -58,20 +59,12 @@ def transcript():
     compare("gamma before", before, "gamma after", least.encode(held["gamma"]))
     lines.append("6. How many clients does the rack have?")
     lines.append(f"   gamma counts {least.estimate(held['gamma'])} different clients")
-    return "".join(line + "\n" for line in lines)
+    return lines
 
 
-def main(words):
-    text = transcript()
-    if words == ["--check"]:
-        if STORED.read_text() != text:
-            sys.exit(f"{STORED.name} differs from what the rules give")
-        print("the stored transcript is what the rules give")
-    elif not words:
-        STORED.write_text(text)
-    else:
-        sys.exit(__doc__)
+def main(arguments):
+    return write_or_compare(FOLDER, {"stdout": transcript()}, arguments, __doc__)
 
 
 if __name__ == "__main__":
-    main(sys.argv[1:])
+    sys.exit(main(sys.argv[1:]))

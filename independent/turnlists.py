@@ -15,6 +15,7 @@ from cases import Draws, framed, run_like
 from least import WORD, encode, hash_of
 from network import (ALL, MEMORY, SLOTS, Arrive, ByState, Deliver, Drop, Generate, Open, Read,
                      Send, Turn, answers)
+from stored import write_or_compare
 
 FOLDER = Path(__file__).resolve().parent.parent / "crates" / "turnlists"
 
@@ -450,26 +451,11 @@ def tell(by_sort, lines, found):
 def main(arguments):
     by_sort = {name: list(lists()) for name, lists in SORTS.items()}
     lines = [line for lists in by_sort.values() for line in lists]
-    if arguments not in ([], ["--check"], ["--list"]):
-        print(__doc__)
-        return 2
     made = {"stdin": lines, "stdout": [answer(line) for line in lines]}
     if arguments == ["--list"]:
         tell(by_sort, *made.values())
         return 0
-    behind = 0
-    for name, texts in made.items():
-        path, data = FOLDER / name, "".join(text + "\n" for text in texts).encode()
-        if not arguments:
-            path.parent.mkdir(parents=True, exist_ok=True)
-            path.write_bytes(data)
-            print(f"{path.name}: {len(texts)} lines, {len(data)} bytes")
-        elif not path.is_file() or path.read_bytes() != data:
-            print(f"{path.name} differs from what the rules give")
-            behind += 1
-        else:
-            print(f"{path.name} agrees: {len(texts)} lines")
-    return 1 if behind else 0
+    return write_or_compare(FOLDER, made, arguments, __doc__)
 
 
 if __name__ == "__main__":
