@@ -1,4 +1,6 @@
 // Turns made by a network's calls, and the promise over every list of them.
+#![tactic(auto)]
+
 pub mod answer;
 pub mod run;
 pub mod turn;

@@ -1,4 +1,6 @@
 // A rack exchange: three hosts count clients, pass frames by two routes, and come to agree byte by byte.
+#![tactic(auto)]
+
 mod host;
 mod show;
 

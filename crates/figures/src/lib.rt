@@ -1,4 +1,6 @@
 // The proved table of worked numbers.
+#![tactic(auto)]
+
 ghost use Rattle.std.specs.Prelude.{◌≡◌, [], ◌∷◌};
 ghost use Rattle.figures.specs.Example.{Example};
 ghost use Rattle.figures.specs.Figures.{Figures};

@@ -1,4 +1,6 @@
 // Turns, the calls that a network is asked to make, with their arguments.
+#![tactic(auto)]
+
 use readings::Reading;
 
 // One call of a network, OPEN apart.

@@ -1,2 +1,4 @@
 // Synopses made of other synopses.
+#![tactic(auto)]
+
 pub mod pair;

@@ -1,4 +1,6 @@
 // Piles: layers over the three kinds.
+#![tactic(auto)]
+
 ghost use Rattle.std.specs.Prelude.{◌≡◌};
 
 use bitmaps::maps::Bitmaps;

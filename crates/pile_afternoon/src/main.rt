@@ -1,5 +1,7 @@
 // An afternoon in the field: hosts count clients and pass frames over links that fail, repeat and delay. Each plan is
 // made by one call, and then told step by step with what each turn answered.
+#![tactic(auto)]
+
 mod line;
 mod parts;
 mod plan;

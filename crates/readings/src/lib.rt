@@ -1,4 +1,6 @@
 // What a host counts: readings, their hash, and the mark of a hash.
+#![tactic(auto)]
+
 ghost use Rattle.std.specs.Prelude.{◌≡◌};
 ghost use Rattle.readings.specs.Readings.{mixed, hash_of, mark_of};
 

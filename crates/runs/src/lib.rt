@@ -1,4 +1,6 @@
 // Ordered elements, runs of them, and the k-union of two runs.
+#![tactic(auto)]
+
 pub mod element;
 pub mod run;
 pub mod union;

@@ -1,4 +1,6 @@
 // Answers case lines by the proved library: a line on standard output for each on standard input.
+#![tactic(auto)]
+
 mod answer;
 mod case;
 mod fault;

@@ -1,4 +1,6 @@
 // Answers turn lists by the proved library: a line on standard output for each on standard input.
+#![tactic(auto)]
+
 mod answer;
 mod brief;
 mod counts;
