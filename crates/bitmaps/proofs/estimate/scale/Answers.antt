@@ -9,12 +9,12 @@ product t w lt le =
     let p : 2 ^ w ≤ 2 ^ 32 = pow-le-pow_right (omega arith) le in
     mul-le t ((1 * 2 ^ w) % 2 ^ 64) 127 (2 ^ 32) (omega arith) (omega (arith, one_shl w 64 (omega arith)))
 
-pub overflow-mul-result : goal.overflow-mul-result
-overflow-mul-result c =
+pub overflow_mul-result : goal.overflow_mul-result
+overflow_mul-result c =
     let p = product c.args.t c.args.w c.requires.0 c.requires.1 in
     search rules
 
-pub overflow-mul-result-2 : goal.overflow-mul-result-2
-overflow-mul-result-2 c =
+pub overflow_mul-result-2 : goal.overflow_mul-result-2
+overflow_mul-result-2 c =
     let p = product c.args.t c.args.w c.requires.0 c.requires.1 in
     search rules

@@ -7,6 +7,6 @@ pub returns : goal.returns
 returns c =
     let small : c.args.map < 2 ^ 32 = search rules in
     record {
-      value = c.ending-ones.ensures;
-      lowest = subst (LowestZero 32 c.args.map) (sym c.ending-ones.ensures) (lowest_tells 32 c.args.map small);
+      value = c.ending_ones.ensures;
+      lowest = subst (LowestZero 32 c.args.map) (sym c.ending_ones.ensures) (lowest_tells 32 c.args.map small);
     }

@@ -15,8 +15,8 @@ returns-in-Ok g c =
     let made = c.in-Ok.ensures in
     record {
       answer = glued_tells k laws form net values memory t c.min-v.result c.min-m.result c.min-v.ensures c.min-m.ensures (tells c.in-Ok.answer) made.answer;
-      after = glued_leaves k laws form net values memory t c.min-v.result c.min-m.result c.min-v.ensures c.min-m.ensures (tells c.in-Ok.answer) c.make-call.new.network c.make-call.new.values c.make-call.new.memory made.answer made.after;
-      still = λ q. part_same values c.make-call.new.values c.min-v.result (made.still q);
+      after = glued_leaves k laws form net values memory t c.min-v.result c.min-m.result c.min-v.ensures c.min-m.ensures (tells c.in-Ok.answer) c.make_call.new.network c.make_call.new.values c.make_call.new.memory made.answer made.after;
+      still = λ q. part_same values c.make_call.new.values c.min-v.result (made.still q);
     }
 
 pub returns-in-Err : goal.returns-in-Err
@@ -24,6 +24,6 @@ returns-in-Err g c =
     let made = c.in-Err.ensures in
     record {
       answer = tt;
-      after = (made.after.0, part_same c.args.memory.now c.make-call.new.memory c.min-m.result made.after.1);
-      still = part_same c.args.values.now c.make-call.new.values c.min-v.result made.still;
+      after = (made.after.0, part_same c.args.memory.now c.make_call.new.memory c.min-m.result made.after.1);
+      still = part_same c.args.values.now c.make_call.new.values c.min-v.result made.still;
     }

@@ -5,8 +5,8 @@ use Rattle.diffusion.specs.Turns.{bytes, refused, form_of, state_of, with_bytes}
 use Rattle.diffusion.proofs.Making.{read_tells, read_length, read_front}
 use Rattle.diffusion.proofs.turn.read_into.Goals as goal
 
-pub slice-bounds-from-slice-end : goal.slice-bounds-from-slice-end
-slice-bounds-from-slice-end g c =
+pub slice_bounds-from_slice-end : goal.slice_bounds-from_slice-end
+slice_bounds-from_slice-end g c =
     let k = g.S.Synopsis.kind in
     let net = c.args.network.now in
     let x = form_of k (state_of k g.S.Synopsis.form net c.args.values.now c.args.memory.now) c.args.node in
@@ -17,8 +17,8 @@ slice-bounds-from-slice-end g c =
     let le : c.in-Ok.length ≤ length c.read.new.out = omega (arith, told, c.read.auto.out) in
     search rules
 
-pub returns-in-Ok-from-slice : goal.returns-in-Ok-from-slice
-returns-in-Ok-from-slice g c =
+pub returns-in-Ok-from_slice : goal.returns-in-Ok-from_slice
+returns-in-Ok-from_slice g c =
     let k = g.S.Synopsis.kind in
     let net = c.args.network.now in
     let x = form_of k (state_of k g.S.Synopsis.form net c.args.values.now c.args.memory.now) c.args.node in
@@ -27,7 +27,7 @@ returns-in-Ok-from-slice g c =
     let part = take (c.min.result - 0) (replicate 2048 0) in
     let told = read_length k g.met.S.Synopsis.lawful net v m c.args.node x c.args.room c.in-Ok.length (length part) c.in-Ok.ensures.answer in
     let cut : length part ≡ min c.args.room 2048 = length-take (c.min.result - 0) (replicate 2048 0) ∙ omega (arith, c.min.ensures) in
-    let items = c.in-Ok-from-slice.ensures.items in
+    let items = c.in-Ok-from_slice.ensures.items in
     ap bytes (items ∙ read_front (k.encoding x) c.read.new.out part c.in-Ok.length told.0 c.in-Ok.ensures.after)
     ∙ read_tells k g.met.S.Synopsis.lawful net v m c.args.node x c.args.room (Ok c.in-Ok.length) (length part) cut c.in-Ok.ensures.answer
 

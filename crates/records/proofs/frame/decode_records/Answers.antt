@@ -16,6 +16,6 @@ returns g c =
     let opens : Ok h ≡ opened c.args.kind c.args.fewest (length out) bytes = c.in-Ok.ensures in
     let r = read_is c.args.kind c.args.fewest (length out) layout bytes h opens whole demanded in
     let rest = rest_is bytes h.end whole in
-    let cuts : c.get-all.new.out ≡ cut layout h.count (drop 4 bytes) =
-    c.get-all.ensures.value ∙ ap (λ (n : ℕ). cut layout n (take (h.end - 4) (drop 4 bytes))) (part_places out h.count r.within) ∙ ap (cut layout h.count) rest in
-    placed c.args.kind c.args.fewest (length out) layout bytes h opens whole demanded c.get-all.new.out cuts out (c.type-inv.frame 3).fits (c.get-all.ensures.back ∙ rest)
+    let cuts : c.get_all.new.out ≡ cut layout h.count (drop 4 bytes) =
+    c.get_all.ensures.value ∙ ap (λ (n : ℕ). cut layout n (take (h.end - 4) (drop 4 bytes))) (part_places out h.count r.within) ∙ ap (cut layout h.count) rest in
+    placed c.args.kind c.args.fewest (length out) layout bytes h opens whole demanded c.get_all.new.out cuts out (c.type_inv.frame 3).fits (c.get_all.ensures.back ∙ rest)

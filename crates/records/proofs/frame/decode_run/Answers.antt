@@ -13,25 +13,25 @@ fall_place g c =
     let order = g.E.Element.order in
     let n = c.in-Ok.count in
     let within : n ≤ length c.args.out.now = c.in-Ok.ensures.within in
-    let items = take (n - 0) c.decode-records.new.out in
+    let items = take (n - 0) c.decode_records.new.out in
     let few : length items ≤ n = simp length-take (omega arith) in
     let lt = fall_inside order items c.in-Some.i (sym c.in-Some.ensures) in
     fall_fits c.in-Some.i n g.E.Record.layout.width c.width.result (length c.args.out.now) (omega arith) within c.requires.1 c.width.ensures
 
-pub overflow-mul-result : goal.overflow-mul-result
-overflow-mul-result g c =
+pub overflow_mul-result : goal.overflow_mul-result
+overflow_mul-result g c =
     let fits = fall_place g c in
     let lt : c.in-Some.i * c.width.result < 2 ^ 64 = omega arith in
     search rules
 
-pub overflow-add-result : goal.overflow-add-result
-overflow-add-result g c = let fits = fall_place g c in search rules
+pub overflow_add-result : goal.overflow_add-result
+overflow_add-result g c = let fits = fall_place g c in search rules
 
 pub returns-in-Some : goal.returns-in-Some
 returns-in-Some g c =
     let p = c.in-Ok.ensures in
-    let after = c.decode-records.new.out in
-    let le : c.in-Ok.count ≤ length after = omega (arith, p.within, c.decode-records.auto.out) in
+    let after = c.decode_records.new.out in
+    let le : c.in-Ok.count ≤ length after = omega (arith, p.within, c.decode_records.auto.out) in
     record {
       answer = search rules;
       after = placed_after c.args.kind 0 (length c.args.out.now) g.E.Record.layout c.args.frame.now c.args.out.now after c.in-Ok.count p le;
@@ -44,9 +44,9 @@ returns-in-None g c =
     let most = length c.args.out.now in
     let p = c.in-Ok.ensures in
     let n = c.in-Ok.count in
-    let after = c.decode-records.new.out in
+    let after = c.decode_records.new.out in
     let items = take n after in
-    let le : n ≤ length after = omega (arith, p.within, c.decode-records.auto.out) in
+    let le : n ≤ length after = omega (arith, p.within, c.decode_records.auto.out) in
     let z : n - 0 ≡ n = omega arith in
     let none : first_fall order items ≡ None = sym (c.in-None.ensures ∙ ap (λ (k : ℕ). first_fall order (take k after)) z) in
     record {

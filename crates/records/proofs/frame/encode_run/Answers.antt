@@ -28,15 +28,15 @@ returns g c =
     let long : length frame ≡ 4 + length items * layout.width = length_of_frame layout g.met.E.Record.readable c.args.kind items in
     let le : length frame ≤ length out = omega (arith, c.if-out-end.false, long, w) in
     let end : 4 + length items * c.width.result ≡ length frame = omega (arith, long, w) in
-    let h : c.copy-from-slice.new.self ≡ header =
-    c.copy-from-slice.ensures.after ∙ c.header-bytes-header.ensures ∙ ap (λ (n : ℕ). header_bytes c.args.kind (length items) (4 + n)) w in
-    let b : c.put-all.new.out ≡ flat_map layout.written items = c.put-all.ensures in
-    let body : 4 + length c.put-all.new.out ≡ 4 + length items * c.width.result = omega (arith, ap length b, long, w) in
+    let h : c.copy_from_slice.new.self ≡ header =
+    c.copy_from_slice.ensures.after ∙ c.header_bytes-header.ensures ∙ ap (λ (n : ℕ). header_bytes c.args.kind (length items) (4 + n)) w in
+    let b : c.put_all.new.out ≡ flat_map layout.written items = c.put_all.ensures in
+    let body : 4 + length c.put_all.new.out ≡ 4 + length items * c.width.result = omega (arith, ap length b, long, w) in
     record {
       answer = ap Ok end ∙ fitted_so frame (length out) le;
-      after = framed c.copy-from-slice.new.self c.put-all.new.out out (4 + length items * c.width.result) _ (ap length h) body refl
-          ∙ ap (λ (n : ℕ). (c.copy-from-slice.new.self ++ c.put-all.new.out) ++ drop n out) end
-          ∙ ap (λ (l : List ℕ). (l ++ c.put-all.new.out) ++ drop (length frame) out) h
+      after = framed c.copy_from_slice.new.self c.put_all.new.out out (4 + length items * c.width.result) _ (ap length h) body refl
+          ∙ ap (λ (n : ℕ). (c.copy_from_slice.new.self ++ c.put_all.new.out) ++ drop n out) end
+          ∙ ap (λ (l : List ℕ). (l ++ c.put_all.new.out) ++ drop (length frame) out) h
           ∙ ap (λ (l : List ℕ). (header ++ l) ++ drop (length frame) out) b
           ∙ over_so frame out le;
     }

@@ -6,16 +6,16 @@ use Rattle.records.proofs.Layouts.{read_whole}
 use Rattle.records.proofs.Walks.{room, no_room, cut_step, back_step, part_length, part_is}
 use Rattle.records.proofs.record.get_all.Goals as goal
 
-pub overflow-add-at : goal.overflow-add-at
-overflow-add-at g c =
+pub overflow_add-at : goal.overflow_add-at
+overflow_add-at g c =
     let r = room (length c.args.out.now) c.loop-i.i g.E.Record.layout.width c.loop-i.at (length c.args.bytes.now) c.loop-i-test.true c.loop-i.invariant.0 in
     let w : c.width-width.result ≡ g.E.Record.layout.width = c.width-width.ensures in
     let fits : length c.args.bytes.now < 2 ^ 64 = search rules in
     let le : c.loop-i.at + c.width-width.result < 2 ^ 64 = omega (arith, r.0) in
     search rules
 
-pub slice-bounds-get-end : goal.slice-bounds-get-end
-slice-bounds-get-end g c =
+pub slice_bounds-get-end : goal.slice_bounds-get-end
+slice_bounds-get-end g c =
     let r = room (length c.args.out.now) c.loop-i.i g.E.Record.layout.width c.loop-i.at (length c.args.bytes.now) c.loop-i-test.true c.loop-i.invariant.0 in
     let w : c.width-width.result ≡ g.E.Record.layout.width = c.width-width.ensures in
     let le : c.loop-i.at + c.width-width.result ≤ length c.args.bytes.now = omega (arith, r.0) in

@@ -5,16 +5,16 @@ use Rattle.records.proofs.Layouts.{put_whole}
 use Rattle.records.proofs.Walks.{room, no_room, put_step, part_length}
 use Rattle.records.proofs.record.put_all.Goals as goal
 
-pub overflow-add-at : goal.overflow-add-at
-overflow-add-at g c =
+pub overflow_add-at : goal.overflow_add-at
+overflow_add-at g c =
     let r = room (length c.args.items.now) c.loop-x.x-index g.E.Record.layout.width c.loop-x.at (length c.args.out.now) c.loop-x-test.true c.loop-x.invariant.0 in
     let w : c.width-width.result ≡ g.E.Record.layout.width = c.width-width.ensures in
     let fits : length c.args.out.now < 2 ^ 64 = search rules in
     let le : c.loop-x.at + c.width-width.result < 2 ^ 64 = omega (arith, r.0) in
     search rules
 
-pub slice-bounds-put-end : goal.slice-bounds-put-end
-slice-bounds-put-end g c =
+pub slice_bounds-put-end : goal.slice_bounds-put-end
+slice_bounds-put-end g c =
     let r = room (length c.args.items.now) c.loop-x.x-index g.E.Record.layout.width c.loop-x.at (length c.args.out.now) c.loop-x-test.true c.loop-x.invariant.0 in
     let w : c.width-width.result ≡ g.E.Record.layout.width = c.width-width.ensures in
     let le : c.loop-x.at + c.width-width.result ≤ length c.loop-x.out = omega (arith, r.0, c.loop-x.auto.out) in

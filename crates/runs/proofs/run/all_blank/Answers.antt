@@ -4,16 +4,16 @@ use Rattle.runs.specs.Runs.{every}
 use Rattle.runs.proofs.Steps.{every_step}
 use Rattle.runs.proofs.run.all_blank.Goals as goal
 
-pub returns-then-not-is-blank : goal.returns-then-not-is-blank
-returns-then-not-is-blank g c =
+pub returns-then-not-is_blank : goal.returns-then-not-is_blank
+returns-then-not-is_blank g c =
     let s = every_step g.E.Element.blank _ _ _ c.loop-x-test.true c.x-item.is in
-    let n = c.if-not-is-blank.ensures in
+    let n = c.if-not-is_blank.ensures in
     sym (rw (sym n) at s) ∙ c.loop-x.invariant
 
 pub loop-x-preserved : goal.loop-x-preserved
 loop-x-preserved g c =
     let s = every_step g.E.Element.blank _ _ _ c.loop-x-test.true c.x-item.is in
-    let n = c.if-not-is-blank.ensures in
+    let n = c.if-not-is_blank.ensures in
     sym (rw (sym n) at s) ∙ c.loop-x.invariant
 
 pub returns : goal.returns

@@ -8,10 +8,10 @@ use Rattle.runs.proofs.run.fall.Goals as goal
 pub loop-x-init : goal.loop-x-init
 loop-x-init g c = (refl, fall_first g.E.Element.order c.args.items.now c.first-item.result (search rules) c.first-item.is)
 
-pub returns-in-default-compare : goal.returns-in-default-compare
-returns-in-default-compare g c =
+pub returns-in_default-compare : goal.returns-in_default-compare
+returns-in_default-compare g c =
     let s = fall_step g.E.Element.order c.loop-x.last c.loop-x.place _ _ _ c.loop-x-test.true c.x-item.is in
-    let n = ap is_lt (sym c.compare.ensures) ∙ not_less c.compare.result c.in-default-compare.not-Less in
+    let n = ap is_lt (sym c.compare.ensures) ∙ not_less c.compare.result c.in_default-compare.not-Less in
     sym (rw n at s) ∙ c.loop-x.invariant.1
 
 pub loop-x-preserved : goal.loop-x-preserved

@@ -24,10 +24,10 @@ returns-after-loop-n g c =
       least = λ ha hb. rw v (laws.means k c.args.a.now c.args.b.now ha hb);
     }
 
-pub returns-in-default : goal.returns-in-default
-returns-in-default g c =
+pub returns-in_default : goal.returns-in_default
+returns-in_default g c =
     let k = length c.args.out.now in
-    let v = written_all c.loop-n.out _ _ c.loop-n.n k c.loop-n.invariant.0 c.loop-n.invariant.3 c.loop-n.auto.out c.in-default.ensures in
+    let v = written_all c.loop-n.out _ _ c.loop-n.n k c.loop-n.invariant.0 c.loop-n.invariant.3 c.loop-n.auto.out c.in_default.ensures in
     let laws = joins g.E.Element.order g.met.E.Element.lawful in
     record {
       count = written_length c.loop-n.out _ _ c.loop-n.n k c.loop-n.invariant.0 c.loop-n.invariant.3 c.loop-n.auto.out v;

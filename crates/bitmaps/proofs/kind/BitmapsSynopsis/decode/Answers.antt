@@ -8,7 +8,7 @@ use Rattle.bitmaps.proofs.kind.BitmapsSynopsis.decode.Goals as goal
 pub returns-in-Ok : goal.returns-in-Ok
 returns-in-Ok c =
     let p = c.in-Ok.ensures in
-    let maps = c.decode-records.new.out in
+    let maps = c.decode_records.new.out in
     let long : length maps ≡ 64 = search rules in
     let all = take_all _ maps (omega (arith, p.enough, long)) in
     (ap formed p.reads ∙ ap (λ (l : List ℕ). Ok (as_maps l)) all, ap (frame_of 1 map_layout) (kept maps long ∙ sym all) ∙ p.back)

@@ -4,4 +4,4 @@ use Rattle.bitmaps.specs.Forms.{frame_long}
 use Rattle.bitmaps.proofs.kind.BitmapsSynopsis.length.Goals as goal
 
 pub returns : goal.returns
-returns c = c.greatest-length.ensures ∙ sym (frame_long (bitmaps_form c.args.self.now))
+returns c = c.greatest_length.ensures ∙ sym (frame_long (bitmaps_form c.args.self.now))

@@ -6,10 +6,10 @@ use Rattle.bitmaps.proofs.LowestZeros.{sum_small}
 use Rattle.bitmaps.proofs.Roots.{root_below, root_one, root_greatest}
 use Rattle.bitmaps.proofs.maps.Bitmaps.estimate.Goals as goal
 
-pub returns-then-is-blank : goal.returns-then-is-blank
-returns-then-is-blank c =
+pub returns-then-is_blank : goal.returns-then-is_blank
+returns-then-is_blank c =
     let long : length c.args.self.now.maps ≡ 64 = search rules in
-    let none = ap none_set (kept c.args.self.now.maps long) ∙ sym c.if-is-blank.ensures in
+    let none = ap none_set (kept c.args.self.now.maps long) ∙ sym c.if-is_blank.ensures in
     record { value = sym (cond-true _ _ _ none); roots = root_greatest }
 
 pub scale-requires : goal.scale-requires
@@ -23,7 +23,7 @@ pub returns : goal.returns
 returns c =
     let maps = c.args.self.now.maps in
     let long : length maps ≡ 64 = search rules in
-    let some = ap none_set (kept maps long) ∙ sym c.if-is-blank.ensures in
+    let some = ap none_set (kept maps long) ∙ sym c.if-is_blank.ensures in
     let sum = c.sum-q.result in
     let j = sum / 8 % 8 in
     let t : c.eighth_root.result ≡ eighth_root j = root_one j c.eighth_root.result (eighth_root j) c.eighth_root.ensures (root_greatest j (omega arith)) in

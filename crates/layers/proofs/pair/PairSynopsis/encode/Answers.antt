@@ -32,5 +32,5 @@ returns g c =
     let long = pair_length a b fits x y n m c.length-offset.ensures c.length.ensures in
     record {
       answer = ap Ok long ∙ room_answer (pair_kind a b) fits (x, y) c.args.out.now (omega arith);
-      after = pair_written a b fits x y c.args.out.now c.copy-from-slice.new.self c.encode.new.out c.encode-2.new.out n m c.length-offset.ensures c.length.ensures c.if-out-end.false (c.copy-from-slice.ensures.after ∙ c.head-bytes.ensures) c.encode.ensures.after c.encode-2.ensures.after;
+      after = pair_written a b fits x y c.args.out.now c.copy_from_slice.new.self c.encode.new.out c.encode-2.new.out n m c.length-offset.ensures c.length.ensures c.if-out-end.false (c.copy_from_slice.ensures.after ∙ c.head_bytes.ensures) c.encode.ensures.after c.encode-2.ensures.after;
     }

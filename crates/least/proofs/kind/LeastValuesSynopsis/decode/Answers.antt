@@ -8,5 +8,5 @@ use Rattle.least.proofs.kind.LeastValuesSynopsis.decode.Goals as goal
 pub returns-in-Ok : goal.returns-in-Ok
 returns-in-Ok c =
     let e = c.in-Ok.ensures.answer in
-    let long : length c.decode-run.new.out ≡ 64 = search rules in
-    read_row 2 64 number_layout by_size unused 0 tt c.args.frame.now c.in-Ok.count c.decode-run.new.out long e.0 e.1 e.2 e.3 e.4
+    let long : length c.decode_run.new.out ≡ 64 = search rules in
+    read_row 2 64 number_layout by_size unused 0 tt c.args.frame.now c.in-Ok.count c.decode_run.new.out long e.0 e.1 e.2 e.3 e.4

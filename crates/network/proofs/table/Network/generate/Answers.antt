@@ -12,5 +12,5 @@ returns g c =
     let lt : c.args.node < net.count = c.if-node-self.false in
     record {
       answer = sym (ready_ok k net v m (no_node k net v m c.args.node (Ok tt)) c.in-Ok.ensures ∙ node_ok k net v m c.args.node (Ok tt) lt);
-      after = subst (λ y. Fused g.S.Synopsis.form c.args.values.now c.fuse-at.new.values c.args.node (k.join (get_or (map g.S.Synopsis.form c.args.values.now) c.args.node k.none) y)) c.make.ensures c.fuse-at.ensures;
+      after = subst (λ y. Fused g.S.Synopsis.form c.args.values.now c.fuse_at.new.values c.args.node (k.join (get_or (map g.S.Synopsis.form c.args.values.now) c.args.node k.none) y)) c.make.ensures c.fuse_at.ensures;
     }

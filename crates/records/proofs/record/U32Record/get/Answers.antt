@@ -7,5 +7,5 @@ pub returns : goal.returns
 returns c =
     let n = from_bytes c.args.bytes.now in
     let low : n % 2 ^ 64 % 2 ^ 32 ≡ n % 2 ^ 32 = omega arith in
-    let got = number_got 4 c.args.bytes.now _ c.get-number.ensures.small c.if-bytes-ne4.false (ap (λ (m : ℕ). m % 2 ^ 32) c.get-number.ensures.value ∙ low) in
+    let got = number_got 4 c.args.bytes.now _ c.get_number.ensures.small c.if-bytes-ne4.false (ap (λ (m : ℕ). m % 2 ^ 32) c.get_number.ensures.value ∙ low) in
     record { value = got.0; back = λ _. got.1 }
