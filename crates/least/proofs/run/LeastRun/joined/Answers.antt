@@ -13,4 +13,4 @@ invariant_of-result c =
     let other = slice_rises by_size unused 64 b.row.count b.row.values b.kept c.as_slice-2.result.now c.as_slice-2.ensures in
     let long : length c.union-count.new.out ≡ 64 = search rules in
     let few : c.union-count.result ≤ 64 = search rules in
-    (fresh_row by_size unused 64 c.union-count.result c.union-count.new.out long 0 tt few (e.least one other).rises e.same, tt)
+    record { kept = fresh_row by_size unused 64 c.union-count.result c.union-count.new.out long 0 tt few (e.least one other).rises e.same }

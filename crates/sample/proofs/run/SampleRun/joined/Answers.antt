@@ -12,4 +12,4 @@ invariant_of-result c =
     let other = slice_rises by_hash unused 32 b.row.count b.row.records b.kept c.as_slice-2.result.now c.as_slice-2.ensures in
     let long : length c.union-count.new.out ≡ 32 = search rules in
     let few : c.union-count.result ≤ 32 = search rules in
-    (fresh_row by_hash unused 32 c.union-count.result c.union-count.new.out long (record { item = 0; tenant = 0; amount = 0 }) tt few (e.least one other).rises e.same, tt)
+    record { kept = fresh_row by_hash unused 32 c.union-count.result c.union-count.new.out long (record { item = 0; tenant = 0; amount = 0 }) tt few (e.least one other).rises e.same }
