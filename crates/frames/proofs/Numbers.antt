@@ -2,7 +2,7 @@
 use Rattle.std.proofs.Common.{◌≡◌, ℕ, zero, suc, ◌+◌, ◌-◌, ◌*◌, ◌/◌, ◌%◌, ◌^◌, ◌<◌, ◌≤◌, List, [], ◌∷◌, length, drop, set, sym, refl, ap, ◌∙◌, mod-eq_of_lt, mul_comm, div-lt_iff_lt-mul, pow-suc, div-add-mod', div-one, arith}
 use native.Mathlib.Nat.{div-div-eq-div-mul, pow-le-pow_right}
 use Rattle.std.proofs.lemmas.List.{drop-set, drop_all}
-use Rattle.std.specs.List.{AllByRecursion as All}
+use Rattle.std.specs.List.{AllByRecursion}
 use Rattle.std.specs.Int.Digits.{number_from_digits_after}
 use Rattle.std.proofs.lemmas.Int.Digits.{number_lt}
 use Rattle.frames.specs.Numbers.{low_bytes, in_bytes, from_bytes}
@@ -22,14 +22,14 @@ from_in_bytes w n =
     let e : 0 * 256 + n / 256 ^ w ≡ n / 256 ^ w = omega arith in
     ap (λ (m : ℕ). number_from_digits_after 256 m (low_bytes w n)) e ∙ after_low w n
 
-after_div : (ds : List ℕ) (m : ℕ) → All (λ b. b < 256) ds → number_from_digits_after 256 m ds / 256 ^ length ds ≡ m
+after_div : (ds : List ℕ) (m : ℕ) → AllByRecursion (λ b. b < 256) ds → number_from_digits_after 256 m ds / 256 ^ length ds ≡ m
 after_div [] m h = div-one m
 after_div (d ∷ ds) m h =
     let lt : d < 256 = h.0 in
     let e : (m * 256 + d) / 256 ≡ m = omega arith in
     div_suc (number_from_digits_after 256 (m * 256 + d) ds) (length ds) ∙ ap (λ (x : ℕ). x / 256) (after_div ds (m * 256 + d) h.1) ∙ e
 
-low_after : (ds : List ℕ) (m : ℕ) → All (λ b. b < 256) ds → low_bytes (length ds) (number_from_digits_after 256 m ds) ≡ ds
+low_after : (ds : List ℕ) (m : ℕ) → AllByRecursion (λ b. b < 256) ds → low_bytes (length ds) (number_from_digits_after 256 m ds) ≡ ds
 low_after [] m h = refl
 low_after (d ∷ ds) m h =
     let lt : d < 256 = h.0 in
@@ -38,7 +38,7 @@ low_after (d ∷ ds) m h =
     let tail = low_after ds (m * 256 + d) h.1 in
     cc
 
-pub in_from_bytes : (ds : List ℕ) → All (λ b. b < 256) ds → in_bytes (length ds) (from_bytes ds) ≡ ds
+pub in_from_bytes : (ds : List ℕ) → AllByRecursion (λ b. b < 256) ds → in_bytes (length ds) (from_bytes ds) ≡ ds
 in_from_bytes [] h = refl
 in_from_bytes (d ∷ ds) h =
     let e : 0 * 256 + d ≡ d = omega arith in
@@ -87,7 +87,7 @@ put_more out n i len rest pos le long inv =
     rw s (drop-set out (i - 1) (rest % 256) lt ∙ cc, ap (λ (m : ℕ). m / 256) inv.1 ∙ sym (div_suc n (len - i)))
 
 -- bytes write a number that fits them
-pub from_small : (w : ℕ) (ds : List ℕ) → All (λ b. b < 256) ds → length ds ≤ w → from_bytes ds % 256 ^ w ≡ from_bytes ds
+pub from_small : (w : ℕ) (ds : List ℕ) → AllByRecursion (λ b. b < 256) ds → length ds ≤ w → from_bytes ds % 256 ^ w ≡ from_bytes ds
 from_small w ds all few =
     let below : from_bytes ds < 256 ^ length ds = number_lt 256 ds all in
     let most : 256 ^ length ds ≤ 256 ^ w = pow-le-pow_right (omega arith) few in

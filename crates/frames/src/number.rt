@@ -1,11 +1,11 @@
 ghost use Rattle.std.specs.Prelude.{◌≡◌, ◌%◌, ◌^◌, ◌<◌, length};
-ghost use Rattle.std.specs.List.{AllByRecursion as All};
+ghost use Rattle.std.specs.List.{AllByRecursion};
 ghost use Rattle.frames.specs.Numbers.{low_bytes, from_bytes};
 
 // The number that bytes write, highest first, modulo 2^64.
 pub fn get_number(bytes: &[u8]) -> u64
     ensures value { result ≡ from_bytes bytes.now % 2 ^ 64 }
-    ensures small { All (λ b. b < 256) bytes.now }
+    ensures small { AllByRecursion (λ b. b < 256) bytes.now }
 {
     let mut n: u64 = 0;
     for b in bytes {

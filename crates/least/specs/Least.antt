@@ -3,7 +3,7 @@ use Rattle.std.specs.Prelude.{ℕ, ◌+◌, ◌*◌, ◌/◌, ◌^◌, Bool, con
 use Rattle.readings.specs.Readings.{hash_of}
 use Rattle.synopsis.specs.Kind.{Kind}
 use Rattle.runs.specs.Order.{by_size}
-use Rattle.runs.specs.Runs.{Run, is_run_row, row_form}
+use Rattle.runs.specs.Runs.{Run, as_run, is_run_row, row_items}
 use Rattle.records.specs.Records.{number_layout}
 use Rattle.records.specs.RunKind.{run_kind}
 use Rattle.least.specs.declared.row.LeastValues.{LeastValues}
@@ -25,7 +25,7 @@ row_kept row = is_run_row by_size unused row.count row.values
 
 -- what a plain row stands for: the run of its values, or the empty one where it fails the check
 abbrev pub least_form : LeastValues → Run by_size 64
-least_form row = row_form by_size unused 64 row.count row.values
+least_form row = as_run by_size 64 (row_items by_size unused row.count row.values)
 
 -- how many different readings a run tells of: its length, and where it is full 63 * 2^32 over the upper half of its
 -- last value and one

@@ -1,6 +1,6 @@
 -- The layouts of numbers read back what they wrote.
 use Rattle.std.proofs.Common.{◌≡◌, ℕ, suc, ◌%◌, ◌^◌, ◌<◌, List, length, sym, ap, ◌∙◌, arith}
-use Rattle.std.specs.List.{AllByRecursion as All}
+use Rattle.std.specs.List.{AllByRecursion}
 use Rattle.std.proofs.lemmas.Bool.{cond-true, eq-eqb}
 use Rattle.frames.specs.Numbers.{in_bytes, from_bytes}
 use Rattle.frames.proofs.Numbers.{from_in_bytes, in_from_bytes, from_small, length_in}
@@ -24,7 +24,7 @@ pub number_readable : Readable number_layout
 number_readable = numbers_readable 7
 
 -- a number that is read from bytes of its width is the one that they write
-pub number_got : (w : ℕ) (bytes : List ℕ) (x : ℕ) → All (λ b. b < 256) bytes → length bytes ≡ w → x ≡ from_bytes bytes % 256 ^ w → (x ≡ from_bytes (of_width (numbers w) bytes)) × (in_bytes w x ≡ bytes)
+pub number_got : (w : ℕ) (bytes : List ℕ) (x : ℕ) → AllByRecursion (λ b. b < 256) bytes → length bytes ≡ w → x ≡ from_bytes bytes % 256 ^ w → (x ≡ from_bytes (of_width (numbers w) bytes)) × (in_bytes w x ≡ bytes)
 number_got w bytes x small long e =
     let value : x ≡ from_bytes bytes = e ∙ from_small w bytes small (omega arith) in
     (value ∙ ap from_bytes (sym (whole_width (numbers w) bytes long)), ap (in_bytes w) value ∙ ap (λ (n : ℕ). in_bytes n (from_bytes bytes)) (sym long) ∙ in_from_bytes bytes small)

@@ -25,9 +25,9 @@ of_width l bytes = cond (length bytes == l.width) bytes []
 abbrev pub numbers : ℕ → Layout ℕ
 numbers w = record { width = w; written = in_bytes w; read = from_bytes }
 
--- numbers of 64 bits
+-- numbers of 64 bits: eight bytes, highest first
 abbrev pub number_layout : Layout ℕ
-number_layout = numbers 8
+number_layout = record { width = 8; written = in_bytes 8; read = from_bytes }
 
 -- the first n records of some bytes
 abbrev pub cut : {E : Type 0} → Layout E → ℕ → List ℕ → List E

@@ -6,7 +6,6 @@ ghost use Rattle.records.specs.RunKind.{read_frame};
 
 use crate::record::{Record, get_all, put_all};
 use frames::header::{Header, header_bytes, read_header};
-use runs::element::Element;
 use runs::run::fall;
 use synopsis::fault::{DecodeFault, EncodeFault, Reason};
 
@@ -62,11 +61,7 @@ pub fn decode_records<E: Record>(
 
 // Reads a frame of a kind whose records rise, and otherwise as `decode_records` does; a record that is not greater than
 // its predecessor is refused after it was read.
-pub fn decode_run<E: Record + Element>(
-    kind: u8,
-    frame: &[u8],
-    out: &mut [E],
-) -> Result<usize, DecodeFault>
+pub fn decode_run<E: Record>(kind: u8, frame: &[u8], out: &mut [E]) -> Result<usize, DecodeFault>
     requires { (length out.old < 256) × (end_of E.Record.layout (length out.old) < 65536) }
     ensures answer { MatchResult result (λ n. (n ≤ length out.old) × (read_frame kind (length out.old) E.Record.layout E.Element.order frame.now ≡ Ok (as_run E.Element.order (length out.old) (take n out.new))) × T (rising E.Element.order (take n out.new)) × (frame_of kind E.Record.layout (take n out.new) ≡ frame.now) × (drop n out.new ≡ drop n out.old)) (λ e. read_frame kind (length out.old) E.Record.layout E.Element.order frame.now ≡ Err e) }
     ensures after { out.new ≡ placed_over (read_records kind 0 (length out.old) E.Record.layout frame.now) out.old }

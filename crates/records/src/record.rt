@@ -4,9 +4,10 @@ ghost use Rattle.records.specs.Records.{Layout, Readable, put_over, of_width, nu
 ghost use Rattle.std.proofs.Common.{rules};
 
 use frames::number::{get_number, put_number};
+use runs::element::Element;
 
-// What a frame holds one behind the other, each in a fixed number of bytes.
-pub trait Record: Copy {
+// An element that a frame holds, in a fixed number of bytes.
+pub trait Record: Element {
     ghost layout: { Layout Self };
 
     fn width() -> usize
@@ -14,12 +15,13 @@ pub trait Record: Copy {
 
     // Writes the record over `out`, if that has its width.
     fn put(self, out: &mut [u8])
-        ensures { out.new ≡ put_over layout self out.old };
+        ensures whole { length out.old ≡ layout.width → out.new ≡ layout.written self }
+        ensures over { out.new ≡ put_over layout self out.old };
 
     // The record that bytes of its width are; of other bytes, the one that no bytes are.
     fn get(bytes: &[u8]) -> Self
-        ensures value { result ≡ layout.read (of_width layout bytes.now) }
-        ensures back { length bytes.now ≡ layout.width → layout.written result ≡ bytes.now };
+        ensures whole { length bytes.now ≡ layout.width → (result ≡ layout.read bytes.now) × (layout.written result ≡ bytes.now) }
+        ensures value { result ≡ layout.read (of_width layout bytes.now) };
 
     ghost readable: { Readable layout };
 }

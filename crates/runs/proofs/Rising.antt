@@ -1,7 +1,7 @@
 -- Rising lists: what stands in them, and that two with the same elements are one.
 use Rattle.std.proofs.Common.{◌≡◌, ℕ, ◌≤◌, Bool, true, false, ◌&&◌, T, ◌⊎◌, List, [], ◌∷◌, length, Ordering, Less, Equal, Greater, sym, refl, ap, ◌∙◌, subst, inl, inr, ⊎_elim, arith}
 use Rattle.std.proofs.lemmas.Bool.{cases_lt}
-use Rattle.std.specs.List.{AllByRecursion as All}
+use Rattle.std.specs.List.{AllByRecursion}
 use Rattle.std.specs.Ordering.{is_lt}
 use Rattle.runs.specs.Order.{Lawful, turned}
 use Rattle.runs.specs.Runs.{rising_from, rising}
@@ -39,11 +39,11 @@ less_from Greater t = absurd t
 abbrev pub Within : {E : Type 0} → List E → List E → Type 0
 Within {E} xs ys = (x : E) → Among x xs → Among x ys
 
-pub all_among : {E : Type 0} (P : E → Type 0) (xs : List E) → All P xs → (x : E) → Among x xs → P x
+pub all_among : {E : Type 0} (P : E → Type 0) (xs : List E) → AllByRecursion P xs → (x : E) → Among x xs → P x
 all_among P [] h x m = absurd m
 all_among P (y ∷ ys) h x m = ⊎_elim (λ e. subst P (sym e) h.0) (λ n. all_among P ys h.1 x n) m
 
-pub all_from_among : {E : Type 0} (P : E → Type 0) (xs : List E) → ((x : E) → Among x xs → P x) → All P xs
+pub all_from_among : {E : Type 0} (P : E → Type 0) (xs : List E) → ((x : E) → Among x xs → P x) → AllByRecursion P xs
 all_from_among P [] h = tt
 all_from_among P (y ∷ ys) h = (h y (inl refl), all_from_among P ys (λ x m. h x (inr m)))
 
@@ -63,7 +63,7 @@ module _ {E : Type 0} (order : E → E → Ordering) (laws : Lawful order) where
   less_turned x y e = laws.turns x y ∙ ap turned e
 
   -- what follows x in a run is greater than x
-  pub above : (x : E) (xs : List E) → T (rising_from order x xs) → All (λ y. order x y ≡ Less) xs
+  pub above : (x : E) (xs : List E) → T (rising_from order x xs) → AllByRecursion (λ y. order x y ≡ Less) xs
   above x [] h = tt
   above x (y ∷ ys) h =
       let xy = less_from (order x y) (left (is_lt (order x y)) (rising_from order y ys) h) in
@@ -104,7 +104,7 @@ module _ {E : Type 0} (order : E → E → Ordering) (laws : Lawful order) where
   -- what P tells of decides the run of its k least elements
   module _ (k : ℕ) (P Q : E → Type 0) (rs ss : List E) (a : Least order k P rs) (b : Least order k Q ss) (pq : (x : E) → P x → Q x) (qp : (x : E) → Q x → P x) where
     -- ss cannot be full below an element of rs
-    not_full : (r : E) → Among r rs → (length ss ≡ k) × All (λ s. order s r ≡ Less) ss → ⊥
+    not_full : (r : E) → Among r rs → (length ss ≡ k) × AllByRecursion (λ s. order s r ≡ Less) ss → ⊥
     not_full r m full =
         let few : length rs ≤ k = a.few in
         let sub : Within ss rs = λ s n.

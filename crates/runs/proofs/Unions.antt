@@ -1,6 +1,6 @@
 -- The k-union of two runs holds the k least elements of either, and so it is a join.
 use Rattle.std.proofs.Common.{◌≡◌, ℕ, zero, suc, ◌≤◌, T, ◌⊎◌, List, [], ◌∷◌, length, take, Ordering, Less, Equal, Greater, sym, refl, ap, ◌∙◌, subst, inl, inr, ⊎_elim, arith}
-use Rattle.std.specs.List.{AllByRecursion as All}
+use Rattle.std.specs.List.{AllByRecursion}
 use Rattle.std.specs.Ordering.{is_lt}
 use Rattle.std.proofs.lemmas.List.{length-take}
 use Rattle.runs.specs.Order.{Lawful}
@@ -89,7 +89,7 @@ module _ {E : Type 0} (order : E → E → Ordering) (laws : Lawful order) where
   from_take (suc n) (x ∷ xs) z m = ⊎_elim (λ q. inl q) (λ k. inr (from_take n xs z k)) m
 
   -- an element of a run is among the first n, or these are n and all less
-  cut_short : (n : ℕ) (xs : List E) → T (rising order xs) → (z : E) → Among z xs → Among z (take n xs) ⊎ ((length (take n xs) ≡ n) × All (λ r. order r z ≡ Less) (take n xs))
+  cut_short : (n : ℕ) (xs : List E) → T (rising order xs) → (z : E) → Among z xs → Among z (take n xs) ⊎ ((length (take n xs) ≡ n) × AllByRecursion (λ r. order r z ≡ Less) (take n xs))
   cut_short zero xs h z m = inr (refl, tt)
   cut_short (suc n) [] h z m = absurd m
   cut_short (suc n) (x ∷ xs) h z m =
@@ -133,15 +133,15 @@ module _ {E : Type 0} (order : E → E → Ordering) (laws : Lawful order) where
     least = λ x h. ⊎_elim (λ p. ⊎_elim (λ r. b.least x (inl r)) (beyond x) (a.least x p)) (λ q. b.least x (inr q)) h;
   }
     where
-      beyond : (x : E) → (length rs ≡ k) × All (λ r. order r x ≡ Less) rs → Among x ts ⊎ ((length ts ≡ k) × All (λ t. order t x ≡ Less) ts)
+      beyond : (x : E) → (length rs ≡ k) × AllByRecursion (λ r. order r x ≡ Less) rs → Among x ts ⊎ ((length ts ≡ k) × AllByRecursion (λ t. order t x ≡ Less) ts)
       beyond x full =
           ⊎_elim
           (λ all. let few : length ts ≤ k = b.few in
           let same = fills order laws rs ts a.rises b.rises all (omega (arith, full.0)) in
-          inr (ap length (sym same) ∙ full.0, subst (λ (l : List E). All (λ t. order t x ≡ Less) l) same full.1))
+          inr (ap length (sym same) ∙ full.0, subst (λ (l : List E). AllByRecursion (λ t. order t x ≡ Less) l) same full.1))
           (λ one. let rx = all_among (λ r. order r x ≡ Less) rs full.1 one.0 one.1 in
           inr (one.2.0, all_from_among (λ t. order t x ≡ Less) ts (λ t m. laws.trans t one.0 x (all_among (λ y. order y one.0 ≡ Less) ts one.2.1 t m) rx)))
-          (sweep (λ r. Among r ts) (λ r. (length ts ≡ k) × All (λ t. order t r ≡ Less) ts) rs (λ r m. b.least r (inl m)))
+          (sweep (λ r. Among r ts) (λ r. (length ts ≡ k) × AllByRecursion (λ t. order t r ≡ Less) ts) rs (λ r m. b.least r (inl m)))
 
   swap : (A B : Type 0) → A ⊎ B → B ⊎ A
   swap A B h = ⊎_elim (λ a. inr a) (λ b. inl b) h

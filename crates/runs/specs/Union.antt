@@ -2,7 +2,7 @@
 use Rattle.std.specs.Prelude.{◌≡◌, ℕ, ◌≤◌, T, ◌⊎◌, List, [], ◌∷◌, length, take}
 use Rattle.std.specs.declared.cmp.Ordering.TheVariants.{Less, Equal, Greater}
 use Rattle.std.specs.declared.cmp.Ordering.{Ordering}
-use Rattle.std.specs.List.{AllByRecursion as All}
+use Rattle.std.specs.List.{AllByRecursion}
 use Rattle.runs.specs.Runs.{rising, Run, as_run}
 
 -- x stands in the list
@@ -22,7 +22,7 @@ module _ {E : Type 0} (order : E → E → Ordering) where
     pub rises : T (rising order rs)
     pub few : length rs ≤ k
     pub found : (x : E) → Among x rs → P x
-    pub least : (x : E) → P x → Among x rs ⊎ ((length rs ≡ k) × All (λ r. order r x ≡ Less) rs)
+    pub least : (x : E) → P x → Among x rs ⊎ ((length rs ≡ k) × AllByRecursion (λ r. order r x ≡ Less) rs)
 
   -- x is found in either list
   abbrev pub Either : List E → List E → E → Type 0

@@ -4,3 +4,4 @@
 pub mod element;
 pub mod run;
 pub mod union;
+pub mod word;

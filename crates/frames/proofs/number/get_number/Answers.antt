@@ -1,5 +1,5 @@
 use Rattle.std.proofs.Common.{◌≡◌, ℕ, ◌+◌, ◌*◌, ◌%◌, ◌^◌, ◌<◌, List, get_or, take, sym, ap, ◌∙◌, subst, rules}
-use Rattle.std.specs.List.{AllByRecursion as All}
+use Rattle.std.specs.List.{AllByRecursion}
 use Rattle.std.proofs.lemmas.List.{take_all}
 use Rattle.std.proofs.ByRecursion.{All-more}
 use Rattle.std.proofs.lemmas.Int.Digits.{number_more}
@@ -23,5 +23,5 @@ returns c =
     let all : take c.loop-b.b-index bytes ≡ bytes = take_all c.loop-b.b-index bytes c.loop-b-test.false in
     record {
       value = c.loop-b.invariant.0 ∙ ap (λ (l : List ℕ). from_bytes l % 2 ^ 64) all;
-      small = subst (λ (l : List ℕ). All (λ b. b < 256) l) all c.loop-b.invariant.1;
+      small = subst (λ (l : List ℕ). AllByRecursion (λ b. b < 256) l) all c.loop-b.invariant.1;
     }

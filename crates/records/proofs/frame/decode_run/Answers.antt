@@ -2,7 +2,8 @@ use Rattle.std.proofs.Common.{◌≡◌, ℕ, ◌+◌, ◌-◌, ◌*◌, ◌^◌
 use Rattle.std.proofs.lemmas.List.{length-take}
 use Rattle.runs.specs.Runs.{first_fall}
 use Rattle.runs.proofs.Forms.{fall_inside, rising_if_none}
-use Rattle.records.specs.RunKind.{in_order, rising_or}
+use Rattle.records.specs.RunKind.{rising_or}
+use Rattle.records.proofs.RunLaws.{in_order, frame_in_order}
 use Rattle.records.proofs.Decoding.{placed_after, fall_fits}
 use Rattle.records.proofs.frame.decode_run.Given as given
 use Rattle.records.proofs.frame.decode_run.Goals as goal
@@ -52,7 +53,7 @@ returns-in-None g c =
     record {
       answer = (
         p.within,
-        ap (in_order c.args.kind most layout order) p.reads ∙ ap (rising_or c.args.kind most layout order items) none,
+        frame_in_order c.args.kind most layout order c.args.frame.now ∙ ap (in_order c.args.kind most layout order) p.reads ∙ ap (rising_or c.args.kind most layout order items) none,
         rising_if_none order items none,
         p.back,
         p.rest,

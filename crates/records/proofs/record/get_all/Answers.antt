@@ -32,7 +32,7 @@ loop-i-preserved g c =
     let w : c.width-width.result ≡ layout.width = c.width-width.ensures in
     let r = room n i layout.width at (length bytes) c.loop-i-test.true c.loop-i.invariant.0 in
     let lt : i < length c.loop-i.out = omega (arith, c.loop-i-test.true, c.loop-i.auto.out) in
-    let got = read_whole layout _ (part_length bytes at layout.width c.width-width.result w r.0) x c.get.ensures.value c.get.ensures.back in
+    let got = c.get.ensures.whole (part_length bytes at layout.width c.width-width.result w r.0) in
     let part = part_is bytes at layout.width c.width-width.result w in
     let next : take (i + 1) (set c.loop-i.out i x) ++ cut layout (n - (i + 1)) (drop (at + layout.width) bytes) ≡ cut layout n bytes =
     cut_step layout c.loop-i.out bytes i at n x lt (sym c.loop-i.auto.out) c.loop-i.invariant.1 (got.0 ∙ ap layout.read part) in

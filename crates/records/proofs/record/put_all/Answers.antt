@@ -30,7 +30,7 @@ loop-x-preserved g c =
     let long : at + layout.width ≤ length c.loop-x.out = omega (arith, r.0, c.loop-x.auto.out) in
     let le : at ≤ length c.loop-x.out = omega arith in
     let q : c.put.new.out ≡ layout.written c.x-item.result =
-    c.put.ensures ∙ put_whole layout _ (part_length c.loop-x.out at layout.width c.width-width.result w long) c.x-item.result in
+    c.put.ensures.whole (part_length c.loop-x.out at layout.width c.width-width.result w long) in
     let m : at + c.width-width.result ≡ at + length c.put.new.out = ap (λ (k : ℕ). at + k) (w ∙ sym (ap length q ∙ g.met.E.Record.readable.sized c.x-item.result)) in
     (ap (λ (k : ℕ). at + k + (length items - (c.loop-x.x-index + 1)) * layout.width) w ∙ r.1, put_step layout.written items c.loop-x.out c.put.new.out c.loop-x.x-index at _ _ c.x-item.result c.loop-x-test.true c.x-item.is c.loop-x.invariant.1 le q m)
 

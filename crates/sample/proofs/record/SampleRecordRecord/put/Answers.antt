@@ -15,8 +15,5 @@ returns-then-out-eq-WIDTH c =
     let second = c.put-then-out-eq-WIDTH.new.out in
     let third = c.put-then-out-eq-WIDTH-2.new.out in
     let front = first ++ post_of 0 8 out in
-    parts_written x out first second third long
-    (c.put.ensures ∙ put_whole number_layout (take 8 out) (search rules) x.item)
-    (c.put-then-out-eq-WIDTH.ensures ∙ put_whole (numbers 4) (take 4 (drop 8 front)) (search rules) x.tenant)
-    (c.put-then-out-eq-WIDTH-2.ensures ∙ put_whole number_layout (take 8 (drop 12 (put_mid 8 4 front second))) (search rules) x.amount)
-    ∙ sym (put_whole sample_layout out long x)
+    let written = parts_written x out first second third long (c.put.ensures.whole (search rules)) (c.put-then-out-eq-WIDTH.ensures.whole (search rules)) (c.put-then-out-eq-WIDTH-2.ensures.whole (search rules)) in
+    record { whole = λ _. written; over = written ∙ sym (put_whole sample_layout out long x) }
