@@ -42,13 +42,14 @@ pub fn decode_records<E: Record>(
     requires { (length out.old < 256) × (end_of E.Record.layout (length out.old) < 65536) }
     ensures { MatchResult result (Placed kind fewest (length out.old) E.Record.layout frame.now out.old out.new) (λ e. (read_records kind fewest (length out.old) E.Record.layout frame.now ≡ Err e) × (out.new ≡ out.old)) }
 {
+    let width = E::width();
     let header = match read_header(frame, kind, fewest, out.len() as u8) {
         Ok(header) => header,
         Err(fault) => return Err(fault),
     };
     let count = header.count as usize;
     let end = header.end as usize;
-    if end != frame.len() || end != 4 + count * E::width() {
+    if end != frame.len() || end != 4 + count * width {
         return Err(DecodeFault {
             reason: Reason::End,
             place: 2,
@@ -66,6 +67,7 @@ pub fn decode_run<E: Record>(kind: u8, frame: &[u8], out: &mut [E]) -> Result<us
     ensures answer { MatchResult result (λ n. (n ≤ length out.old) × (read_frame kind (length out.old) E.Record.layout E.Element.order frame.now ≡ Ok (as_run E.Element.order (length out.old) (take n out.new))) × T (rising E.Element.order (take n out.new)) × (frame_of kind E.Record.layout (take n out.new) ≡ frame.now) × (drop n out.new ≡ drop n out.old)) (λ e. read_frame kind (length out.old) E.Record.layout E.Element.order frame.now ≡ Err e) }
     ensures after { out.new ≡ placed_over (read_records kind 0 (length out.old) E.Record.layout frame.now) out.old }
 {
+    let width = E::width();
     let count = match decode_records(kind, 0, frame, out) {
         Ok(count) => count,
         Err(fault) => return Err(fault),
@@ -73,7 +75,7 @@ pub fn decode_run<E: Record>(kind: u8, frame: &[u8], out: &mut [E]) -> Result<us
     match fall(&out[0..count]) {
         Some(i) => Err(DecodeFault {
             reason: Reason::Order,
-            place: 4 + i * E::width(),
+            place: 4 + i * width,
             kind,
         }),
         None => Ok(count),

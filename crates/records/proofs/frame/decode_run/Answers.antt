@@ -9,7 +9,7 @@ use Rattle.records.proofs.frame.decode_run.Given as given
 use Rattle.records.proofs.frame.decode_run.Goals as goal
 
 -- the place of the record that does not rise
-fall_place : (g : given.Over) (c : goal.After-width g) → 4 + c.in-Some.i * c.width.result < 2 ^ 64
+fall_place : (g : given.Over) (c : goal.In-Some g) → 4 + c.in-Some.i * c.width-width.result < 2 ^ 64
 fall_place g c =
     let order = g.E.Element.order in
     let n = c.in-Ok.count in
@@ -17,12 +17,12 @@ fall_place g c =
     let items = take (n - 0) c.decode_records.new.out in
     let few : length items ≤ n = simp length-take (omega arith) in
     let lt = fall_inside order items c.in-Some.i (sym c.in-Some.ensures) in
-    fall_fits c.in-Some.i n g.E.Record.layout.width c.width.result (length c.args.out.now) (omega arith) within c.requires.1 c.width.ensures
+    fall_fits c.in-Some.i n g.E.Record.layout.width c.width-width.result (length c.args.out.now) (omega arith) within c.requires.1 c.width-width.ensures
 
 pub overflow_mul-result : goal.overflow_mul-result
 overflow_mul-result g c =
     let fits = fall_place g c in
-    let lt : c.in-Some.i * c.width.result < 2 ^ 64 = omega arith in
+    let lt : c.in-Some.i * c.width-width.result < 2 ^ 64 = omega arith in
     search rules
 
 pub overflow_add-result : goal.overflow_add-result

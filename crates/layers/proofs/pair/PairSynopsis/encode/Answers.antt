@@ -1,4 +1,4 @@
-use Rattle.std.proofs.Common.{◌≡◌, ◌<◌, false, length, Ok, ap, ◌∙◌, arith}
+use Rattle.std.proofs.Common.{◌≡◌, ◌<◌, false, length, Ok, ap, ◌∙◌, arith, rules}
 use Rattle.std.proofs.lemmas.Bool.{le-ltb}
 use Rattle.synopsis.specs.Kind.{overlong}
 use Rattle.layers.specs.Pairs.{pair_kind, pair_greatest, pair_bytes}
@@ -20,17 +20,22 @@ returns-then-out-end g c =
       after = no_room_after (pair_kind a b) fits (x, y) c.args.out.now short;
     }
 
-pub returns : goal.returns
-returns g c =
+pub returns-clause-answer : goal.returns-clause-answer
+returns-clause-answer g c =
     let a = g.A.Synopsis.kind in
     let b = g.B.Synopsis.kind in
     let x = g.A.Synopsis.form c.args.self.now.first in
     let y = g.B.Synopsis.form c.args.self.now.second in
-    let n = c.length-offset.result in
-    let m = c.length.result in
     let fits : overlong (pair_kind a b) ≡ false = le-ltb 2048 (pair_greatest a b) (omega arith) in
-    let long = pair_length a b fits x y n m c.length-offset.ensures c.length.ensures in
-    record {
-      answer = ap Ok long ∙ room_answer (pair_kind a b) fits (x, y) c.args.out.now (omega arith);
-      after = pair_written a b fits x y c.args.out.now c.copy_from_slice.new.self c.encode.new.out c.encode-2.new.out n m c.length-offset.ensures c.length.ensures c.if-out-end.false (c.copy_from_slice.ensures.after ∙ c.head_bytes.ensures) c.encode.ensures.after c.encode-2.ensures.after;
-    }
+    let long = pair_length a b fits x y c.length-offset.result c.length.result c.length-offset.ensures c.length.ensures in
+    ap Ok long ∙ room_answer (pair_kind a b) fits (x, y) c.args.out.now (omega arith)
+
+-- what the sides wrote is found, and not named, so that a side that wrote nothing fails as a fact
+pub returns-clause-after : goal.returns-clause-after
+returns-clause-after g c =
+    let a = g.A.Synopsis.kind in
+    let b = g.B.Synopsis.kind in
+    let x = g.A.Synopsis.form c.args.self.now.first in
+    let y = g.B.Synopsis.form c.args.self.now.second in
+    let fits : overlong (pair_kind a b) ≡ false = le-ltb 2048 (pair_greatest a b) (omega arith) in
+    search (pair_written a b fits x y, rules)
