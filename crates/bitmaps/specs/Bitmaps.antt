@@ -1,5 +1,5 @@
 -- Bitmaps: the kind with number 1, whose forms are 64 maps of 32 bits, and the estimate from them.
-use Rattle.std.specs.Prelude.{◌≡◌, ℕ, zero, suc, ◌+◌, ◌-◌, ◌*◌, ◌/◌, ◌%◌, ◌^◌, ◌<◌, ◌≤◌, Bool, true, false, cond, ◌&&◌, List, [], ◌∷◌, length, set, replicate, Ok, Err, sum_by, Result, ◌==◌, bit_or, nat_le, slice_set, refl}
+use Rattle.std.specs.Prelude.{◌≡◌, ℕ, zero, suc, ◌+◌, ◌-◌, ◌*◌, ◌/◌, ◌%◌, ◌^◌, ◌<◌, ◌≤◌, Bool, true, false, cond, ◌&&◌, List, [], ◌∷◌, length, replicate, Ok, Err, sum_by, Result, ◌==◌, bit_or, nat_le, slice_set, refl}
 use Rattle.std.specs.Int.Count.{count_trailing_zeros}
 use Rattle.std.proofs.lemmas.Bool.{eqb-true}
 use Rattle.readings.specs.Readings.{hash_of, mark_of}

@@ -1,18 +1,17 @@
 -- A turn that is brought a front part of the values and of the memory does what it would do with all of them.
-use Rattle.std.proofs.Common.{◌≡◌, ℕ, ◌+◌, ◌-◌, ◌*◌, ◌<◌, ◌≤◌, min, Bool, true, false, cond, ◌||◌, T, ltb, leb, ◌⊎◌, List, [], ◌∷◌, ◌++◌, map, length, get_or, take, drop, set, Ok, Err, Result, sym, refl, ap, ◌∙◌, subst, inl, inr, ⊎_elim, arith}
+use Rattle.std.proofs.Common.{◌≡◌, ℕ, ◌+◌, ◌<◌, ◌≤◌, Bool, true, false, ◌||◌, T, ltb, leb, List, ◌++◌, length, get_or, take, drop, set, Ok, Result, sym, refl, ap, ◌∙◌, subst, ⊎_elim, arith}
 use Rattle.std.proofs.lemmas.List.{take-append-drop, get_or-take, set-append_left, length-take, take-take, drop-append-le, append_assoc}
-use Rattle.std.proofs.lemmas.Bool.{cases_lt, le-leb, leb-false, ltb-false, or_parts, cond-true}
+use Rattle.std.proofs.lemmas.Bool.{cases_lt, le-leb, leb-false, ltb-false, or_parts}
 use Rattle.synopsis.specs.Kind.{Kind, Laws, overlong}
 use Rattle.histories.specs.declared.Call.{Call}
 use Rattle.histories.specs.declared.Call.TheVariants.{Generate, Arrive, Send, Deliver, Drop, Read}
 use Rattle.histories.specs.Folds.{read_as}
 use Rattle.network.specs.declared.fault.NetworkFault.{NetworkFault}
-use Rattle.network.specs.declared.fault.NetworkFault.TheVariants.{Brought, Overlong, NoNode, NoSlot, SlotFree, SlotFilled, Room, Synopsis}
-use Rattle.network.specs.declared.slot.Slot.{Slot}
+use Rattle.network.specs.declared.fault.NetworkFault.TheVariants.{Brought, Overlong, NoNode, Room}
 use Rattle.network.specs.declared.slot.Slot.TheVariants.{Free, Filled}
-use Rattle.network.specs.Calls.{unless, ready, no_node, beyond, slot_start, slot_frame, no_slot, placed, switched, read_answer, deliver_answer}
+use Rattle.network.specs.Calls.{unless, ready, no_node, beyond, slot_start, no_slot, placed, switched, read_answer, deliver_answer}
 use Rattle.diffusion.proofs.Lying.{front_frame}
-use Rattle.diffusion.specs.Turns.{Told, done, bytes, refused, is_accepted, plainly, with_bytes, State, form_of, call_tells, fused, call_leaves}
+use Rattle.diffusion.specs.Turns.{Told, is_accepted, plainly, with_bytes, State, form_of, call_tells, fused, call_leaves}
 
 -- an accepted answer met none of the refusals
 pub plain_on : (b : Bool) (e : NetworkFault) (rest : Result (Unit {0}) NetworkFault) → is_accepted (plainly (unless b e rest)) ≡ true → (b ≡ false) × (is_accepted (plainly rest) ≡ true)

@@ -1,9 +1,8 @@
 -- A turn, from the call that it makes with its front part of the values and of the memory.
-use Rattle.std.proofs.Common.{◌≡◌, ℕ, ◌-◌, ◌≤◌, min, Bool, true, false, cond, List, ◌++◌, map, length, take, drop, sym, refl, ap, ◌∙◌, subst, arith}
+use Rattle.std.proofs.Common.{◌≡◌, ℕ, ◌-◌, ◌≤◌, min, Bool, true, false, cond, List, ◌++◌, map, length, take, drop, sym, refl, ap, ◌∙◌, arith}
 use borrow.Rule.Slice.PartMut.{post_of}
 use Rattle.std.proofs.lemmas.List.{take-map, drop-map, map-append, length-map, length-take, take-append-drop}
 use Rattle.synopsis.specs.Kind.{Kind, Laws}
-use Rattle.histories.specs.declared.Call.{Call}
 use Rattle.histories.specs.declared.Turn.{Turn}
 use Rattle.network.specs.declared.table.Network.{Network}
 use Rattle.diffusion.specs.Turns.{Told, is_accepted, State, state_of, call_tells, call_leaves, call_after, turn_tells, turn_leaves}

@@ -1,5 +1,5 @@
 -- What one call tells and leaves, from its contract.
-use Rattle.std.proofs.Common.{◌≡◌, ℕ, ◌-◌, ◌≤◌, min, Bool, true, false, cond, ◌||◌, T, ltb, leb, List, ◌++◌, map, length, get_or, take, drop, set, Ok, Err, Result, sym, refl, ap, ◌∙◌, subst, arith, MatchResult}
+use Rattle.std.proofs.Common.{◌≡◌, ℕ, ◌-◌, ◌≤◌, min, Bool, true, false, cond, ◌||◌, T, ltb, leb, List, ◌++◌, map, length, get_or, take, drop, Ok, Err, Result, sym, refl, ap, ◌∙◌, subst, arith, MatchResult}
 use Rattle.std.proofs.lemmas.List.{take_at}
 use Rattle.std.proofs.lemmas.Bool.{ltb-false}
 use Rattle.std.proofs.lemmas.Bool.Decides.{nat_tests}
@@ -9,7 +9,7 @@ use Rattle.network.specs.declared.fault.NetworkFault.{NetworkFault}
 use Rattle.network.specs.declared.table.Network.{Network}
 use Rattle.network.specs.declared.fault.NetworkFault.TheVariants.{Brought, Overlong, NoNode, Room}
 use Rattle.network.specs.Calls.{Fused, Joined, unless, ready, no_node, read_answer}
-use Rattle.diffusion.specs.Turns.{Told, done, refused, is_accepted, plainly, with_bytes, State, fused, state_of}
+use Rattle.diffusion.specs.Turns.{Told, is_accepted, plainly, with_bytes, fused, state_of}
 
 module _ {S : Type 0} (k : Kind) (form : S → k.Form) (net : Network) (before after : List S) (memory : List ℕ) (n : ℕ) where
   -- a call that joins a form into a node

@@ -1,11 +1,10 @@
 -- A run begins with an accepted OPEN, and goes on by one turn.
-use Rattle.std.proofs.Common.{◌≡◌, ℕ, ◌+◌, ◌<◌, ◌≤◌, Bool, true, false, cond, ◌||◌, T, ltb, List, [], ◌∷◌, ◌++◌, map, length, get_or, take, Ok, Err, Result, sym, refl, ap, ◌∙◌, subst, arith}
-use Rattle.std.proofs.lemmas.List.{take-map, length-map, take_more, map_push, take_all}
+use Rattle.std.proofs.Common.{◌≡◌, ℕ, ◌+◌, ◌<◌, ◌≤◌, Bool, true, false, ◌||◌, T, ltb, List, [], ◌∷◌, ◌++◌, map, length, get_or, take, Ok, sym, ap, ◌∙◌, subst, arith}
+use Rattle.std.proofs.lemmas.List.{take-map, length-map, take_more, map_push}
 use Rattle.std.proofs.lemmas.Bool.{ltb-false, or_parts}
 use Rattle.synopsis.specs.Kind.{Kind, overlong}
 use Rattle.histories.specs.declared.Turn.{Turn}
 use Rattle.histories.specs.Deeds.{History, deed}
-use Rattle.network.specs.declared.fault.NetworkFault.{NetworkFault}
 use Rattle.network.specs.declared.table.Network.{Network}
 use Rattle.network.proofs.Refusing.{not_refused}
 use Rattle.network.specs.Calls.{open_answer, opened_network, Emptied}

@@ -1,5 +1,5 @@
 -- What each turn must answer, by the history alone.
-use Rattle.std.specs.Prelude.{◌≡◌, ℕ, Bool, true, false, cond, ◌||◌, List, [], ◌∷◌, ◌++◌, length, Ok, Err, Result, nat_le, nat_lt}
+use Rattle.std.specs.Prelude.{ℕ, cond, ◌||◌, List, [], ◌∷◌, ◌++◌, length, Ok, Err, Result, nat_le, nat_lt}
 use Rattle.synopsis.specs.declared.fault.DecodeFault.{DecodeFault}
 use Rattle.synopsis.specs.Kind.{Kind}
 use Rattle.histories.specs.declared.Call.{Call}

@@ -1,7 +1,6 @@
 -- A header reads back as itself, and its faults lie within the bytes.
 use Rattle.std.proofs.Common.{◌≡◌, ℕ, ◌+◌, ◌*◌, ◌/◌, ◌%◌, ◌^◌, ◌<◌, ◌≤◌, false, ◌||◌, eqb, ltb, List, [], ◌∷◌, ◌++◌, length, get_or, drop, Ok, Result, sym, refl, ap, ◌∙◌, subst, arith, MatchResult}
 use Rattle.std.proofs.lemmas.Bool.{cond_both, cond-true, cond-false, le-ltb, ltb-false, eq-eqb, eqb-true, or_from, or_parts}
-use Rattle.synopsis.specs.declared.fault.Reason.TheVariants as reason
 use Rattle.synopsis.specs.declared.fault.DecodeFault.{DecodeFault}
 use Rattle.frames.specs.declared.header.Header.{Header}
 use Rattle.frames.specs.Headers.{header_bytes, opened}

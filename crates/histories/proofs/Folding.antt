@@ -1,5 +1,5 @@
 -- What turns do to the folds over contributions, and that every arrangement of the contributions is their fold.
-use Rattle.std.proofs.Common.{◌≡◌, ℕ, suc, ◌<◌, ◌≤◌, Bool, true, false, cond, ◌&&◌, ◌||◌, eqb, ◌⊎◌, List, [], ◌∷◌, length, sym, refl, ap, ◌∙◌, subst, inl, inr, ⊎_elim, arith}
+use Rattle.std.proofs.Common.{◌≡◌, ℕ, suc, ◌<◌, ◌≤◌, Bool, true, false, cond, ◌&&◌, ◌||◌, eqb, [], ◌∷◌, length, sym, refl, ap, ◌∙◌, subst, inl, inr, ⊎_elim, arith}
 use Rattle.std.proofs.lemmas.Bool.{eq-eqb, ne_eqb, and_right, and_from, or_from, or_left, cond-true, cond-false, cond_both}
 use Rattle.synopsis.specs.Kind.{Kind, Laws}
 use Rattle.histories.specs.Deeds.{Gift, Deed, gave, sent, delivered, dropped, nothing, History}

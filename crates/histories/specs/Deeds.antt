@@ -1,9 +1,8 @@
 -- What turns did: histories, read off the turns' arguments and which of them were accepted.
-use Rattle.std.specs.Prelude.{ℕ, Bool, true, false, List, [], ◌∷◌}
+use Rattle.std.specs.Prelude.{ℕ, Bool, true, false, List}
 use Rattle.readings.specs.declared.Reading.{Reading}
 use Rattle.histories.specs.declared.Call.{Call}
 use Rattle.histories.specs.declared.Call.TheVariants.{Generate, Arrive, Send, Deliver, Drop, Read}
-use Rattle.histories.specs.declared.Turn.{Turn}
 
 -- what a contribution brings: a reading, or the bytes of a frame from outside
 pub data Gift : Type 0 where

@@ -1,8 +1,8 @@
 -- Folds over contributions, and other arrangements of them.
-use Rattle.std.specs.Prelude.{◌≡◌, ℕ, suc, Bool, true, false, cond, ◌⊎◌, List, [], ◌∷◌, length, Ok, Err, Result}
+use Rattle.std.specs.Prelude.{◌≡◌, ℕ, suc, Bool, cond, ◌⊎◌, [], ◌∷◌, length, Ok, Err, Result}
 use Rattle.synopsis.specs.declared.fault.DecodeFault.{DecodeFault}
 use Rattle.synopsis.specs.Kind.{Kind}
-use Rattle.histories.specs.Deeds.{Gift, reading, frame, Deed, gave, sent, delivered, dropped, nothing, History}
+use Rattle.histories.specs.Deeds.{Gift, reading, frame, gave, sent, delivered, dropped, nothing, History}
 use Rattle.histories.specs.Paths.{Did, Reaches}
 use Rattle.histories.specs.Search.{reaches, carries}
 

@@ -1,6 +1,6 @@
 -- Delivered paths.
-use Rattle.std.specs.Prelude.{◌≡◌, ℕ, suc, ◌<◌, List, [], ◌∷◌, length}
-use Rattle.histories.specs.Deeds.{Gift, Deed, gave, sent, delivered, dropped, nothing, History}
+use Rattle.std.specs.Prelude.{ℕ, suc, ◌<◌, ◌∷◌, length}
+use Rattle.histories.specs.Deeds.{Gift, Deed, gave, sent, delivered, dropped, History}
 
 -- turn i of the history did d
 pub data Did : History → ℕ → Deed → Type 0 where

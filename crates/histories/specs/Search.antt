@@ -1,6 +1,6 @@
 -- A search for paths that computes.
-use Rattle.std.specs.Prelude.{◌≡◌, ℕ, suc, Bool, true, false, cond, ◌&&◌, ◌||◌, List, [], ◌∷◌, length, ◌==◌}
-use Rattle.histories.specs.Deeds.{Gift, Deed, gave, sent, delivered, dropped, nothing, History}
+use Rattle.std.specs.Prelude.{◌≡◌, ℕ, suc, Bool, false, cond, ◌&&◌, ◌||◌, [], ◌∷◌, length, ◌==◌}
+use Rattle.histories.specs.Deeds.{gave, sent, delivered, dropped, nothing, History}
 
 -- is slot s filled?
 abbrev pub filled : History → ℕ → Bool

@@ -1,8 +1,8 @@
 -- Refusals one after another, and values of which one was fused.
-use Rattle.std.proofs.Common.{◌≡◌, ℕ, ◌+◌, ◌-◌, ◌<◌, ◌≤◌, Bool, true, false, cond, ◌||◌, ltb, leb, ◌≢◌, List, [], ◌∷◌, ◌++◌, map, length, get_or, take, drop, set, replicate, Ok, Err, Result, sym, refl, ap, ◌∙◌, subst, arith}
+use Rattle.std.proofs.Common.{◌≡◌, ℕ, ◌+◌, ◌-◌, ◌<◌, ◌≤◌, Bool, true, false, cond, ◌||◌, ltb, List, [], ◌∷◌, ◌++◌, map, length, get_or, take, drop, set, replicate, Ok, Err, Result, sym, refl, ap, ◌∙◌, arith}
 use borrow.Rule.Slice.PartMut.{put_mid}
 use Rattle.std.proofs.lemmas.List.{length-set, get_or-set_other, get_or-map, map-set, take_more_set, map_push, replicate_more, drop-set-lt, drop-drop, drop-append-le, take-append-drop, length-take, length-drop, append_assoc}
-use Rattle.std.proofs.lemmas.Bool.{cond-false, lt-leb, le-leb, ltb-true, ltb-false, or_parts}
+use Rattle.std.proofs.lemmas.Bool.{cond-false, lt-leb, ltb-true, ltb-false, or_parts}
 use Rattle.synopsis.specs.Kind.{Kind, overlong, fitted, encode_answer}
 use Rattle.synopsis.specs.declared.fault.EncodeFault.{EncodeFault}
 use Rattle.synopsis.specs.declared.fault.EncodeFault.TheVariants as no_encoding

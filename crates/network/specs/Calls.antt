@@ -1,8 +1,7 @@
 -- What each call of a network answers, and what it leaves.
-use Rattle.std.specs.Prelude.{◌≡◌, ℕ, ◌+◌, ◌*◌, min, Bool, true, false, cond, ◌||◌, List, [], ◌∷◌, ◌++◌, map, length, take, drop, replicate, Some, None, Ok, Err, Option, Result, ◌≢◌, nat_le, nat_lt, slice_index_or, slice_set}
-use Rattle.readings.specs.declared.Reading.{Reading}
+use Rattle.std.specs.Prelude.{◌≡◌, ℕ, ◌+◌, ◌*◌, min, Bool, true, false, cond, ◌||◌, List, [], ◌++◌, map, length, take, drop, replicate, Ok, Err, Result, ◌≢◌, nat_le, nat_lt, slice_index_or, slice_set}
 use Rattle.synopsis.specs.declared.fault.DecodeFault.{DecodeFault}
-use Rattle.synopsis.specs.Kind.{Kind, overlong, over}
+use Rattle.synopsis.specs.Kind.{Kind, overlong}
 use Rattle.network.specs.declared.fault.NetworkFault.{NetworkFault}
 use Rattle.network.specs.declared.fault.NetworkFault.TheVariants.{NodeCount, Brought, Overlong, NoNode, NoSlot, SlotFree, SlotFilled, Room, Synopsis}
 use Rattle.network.specs.declared.slot.Slot.{Slot}

@@ -1,5 +1,5 @@
 -- The refusals of a network, each with its number and values.
-use Rattle.std.specs.Prelude.{ℕ, List, [], ◌∷◌}
+use Rattle.std.specs.Prelude.{ℕ}
 use Rattle.synopsis.specs.declared.fault.DecodeFault.{DecodeFault}
 use Rattle.synopsis.specs.Faults.{reason_number}
 use Rattle.network.specs.declared.fault.NetworkFault.{NetworkFault}

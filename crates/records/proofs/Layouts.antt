@@ -14,9 +14,6 @@ module _ {E : Type 0} (l : Layout E) (bytes : List ℕ) (long : length bytes ≡
   pub whole_width : of_width l bytes ≡ bytes
   whole_width = cond-true _ bytes _ (eq-eqb (length bytes) l.width long)
 
-  pub read_whole : (x : E) → x ≡ l.read (of_width l bytes) → (length bytes ≡ l.width → l.written x ≡ bytes) → (x ≡ l.read bytes) × (l.written x ≡ bytes)
-  read_whole x value back = (value ∙ ap l.read whole_width, back long)
-
 pub numbers_readable : (w : ℕ) → Readable (numbers (suc w))
 numbers_readable w = record { sized = length_in (suc w); back = from_in_bytes w }
 

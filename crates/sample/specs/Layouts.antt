@@ -1,5 +1,5 @@
 -- Records of a sample are told apart by their key, and read back as they were written.
-use Rattle.std.specs.Prelude.{◌≡◌, ℕ, ◌+◌, T, List, ◌++◌, length, take, drop}
+use Rattle.std.specs.Prelude.{◌≡◌, ℕ, T, List, ◌++◌, length, take, drop}
 use Rattle.std.proofs.Common.{sym, ap, ◌∙◌, arith}
 use borrow.Rule.Slice.PartMut.{put_mid}
 use Rattle.std.proofs.lemmas.List.{length-append, length-drop, take_all, drop_all, drop-drop, append_assoc, append-nil, take-append-drop}

@@ -2,7 +2,6 @@
 use Rattle.std.proofs.Common.{◌≡◌, ℕ, ◌<◌, ◌≤◌, false, ltb, List, ◌++◌, length, take, drop, Ok, Err, sym, refl, ap, ◌∙◌, arith}
 use Rattle.std.proofs.lemmas.List.{take_at}
 use Rattle.std.proofs.lemmas.Bool.{cond-true, cond-false, lt-ltb, le-ltb}
-use Rattle.synopsis.specs.declared.fault.EncodeFault.{EncodeFault}
 use Rattle.synopsis.specs.declared.fault.EncodeFault.TheVariants.{Room}
 use Rattle.synopsis.specs.Kind.{Kind, Laws, overlong, fitted, over, encode_answer, encode_after}
 

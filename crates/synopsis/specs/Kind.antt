@@ -1,5 +1,5 @@
 -- What a synopsis kind means, and the laws that it keeps.
-use Rattle.std.specs.Prelude.{◌≡◌, ℕ, ◌≤◌, Bool, true, false, cond, List, [], ◌∷◌, ◌++◌, length, drop, IfErr, Ok, Err, Result, MatchResult, nat_lt}
+use Rattle.std.specs.Prelude.{◌≡◌, ℕ, ◌≤◌, Bool, true, false, cond, List, ◌++◌, length, drop, IfErr, Ok, Err, Result, MatchResult, nat_lt}
 use Rattle.readings.specs.declared.Reading.{Reading}
 use Rattle.synopsis.specs.declared.fault.Reason.TheVariants as reason
 use Rattle.synopsis.specs.declared.fault.DecodeFault.{DecodeFault}

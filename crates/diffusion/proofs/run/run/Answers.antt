@@ -1,6 +1,6 @@
-use Rattle.std.proofs.Common.{◌≡◌, ℕ, ◌+◌, ◌≤◌, List, [], map, length, get_or, take, vec_items, vec_len, sym, refl, ap, ◌∙◌, subst, arith, rules}
+use Rattle.std.proofs.Common.{◌≡◌, ℕ, ◌+◌, [], map, length, take, vec_items, sym, refl, ap, ◌∙◌, subst, arith}
 use Rattle.std.proofs.lemmas.List.{get_or_default}
-use Rattle.diffusion.specs.Turns.{Told, tells, state_of, Ran, opened}
+use Rattle.diffusion.specs.Turns.{tells, state_of, Ran}
 use Rattle.diffusion.proofs.Running.{opened_state, ran_more, made_so, at_start, not_all}
 use Rattle.diffusion.proofs.Promising.{promise}
 use Rattle.diffusion.proofs.run.run.Goals as goal

@@ -1,4 +1,3 @@
-use Rattle.std.proofs.Common.{◌≡◌, sym, ap, ◌∙◌}
 use Rattle.diffusion.specs.Turns.{tells}
 use Rattle.diffusion.proofs.Gluing.{part_same, glued_tells, glued_leaves}
 use Rattle.diffusion.proofs.turn.make_turn.Goals as goal

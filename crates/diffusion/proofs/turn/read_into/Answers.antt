@@ -1,7 +1,6 @@
-use Rattle.std.proofs.Common.{◌≡◌, ℕ, ◌-◌, ◌≤◌, min, List, ◌++◌, length, take, drop, replicate, Ok, Err, sym, refl, ap, ◌∙◌, arith, rules}
-use Rattle.std.proofs.lemmas.List.{length-take, length-replicate}
-use Rattle.network.specs.Calls.{read_answer}
-use Rattle.diffusion.specs.Turns.{bytes, refused, form_of, state_of, with_bytes}
+use Rattle.std.proofs.Common.{◌≡◌, ◌-◌, ◌≤◌, min, length, take, replicate, Ok, Err, ap, ◌∙◌, arith, rules}
+use Rattle.std.proofs.lemmas.List.{length-take}
+use Rattle.diffusion.specs.Turns.{bytes, form_of, state_of}
 use Rattle.diffusion.proofs.Making.{read_tells, read_length, read_front}
 use Rattle.diffusion.proofs.turn.read_into.Goals as goal
 

@@ -1,4 +1,4 @@
-use Rattle.std.proofs.Common.{◌≡◌, ℕ, ◌+◌, ◌<◌, ◌≤◌, map, length, take, drop, replicate, sym, refl, ap, ◌∙◌, subst, arith}
+use Rattle.std.proofs.Common.{◌≡◌, ℕ, ◌<◌, map, length, take, drop, replicate, subst, arith}
 use Rattle.network.proofs.Refusing.{emptied_more}
 use Rattle.network.proofs.calls.empty_front.Goals as goal
 

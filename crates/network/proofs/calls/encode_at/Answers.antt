@@ -1,10 +1,9 @@
-use Rattle.std.proofs.Common.{◌≡◌, ℕ, ◌+◌, ◌-◌, ◌*◌, ◌<◌, ◌≤◌, List, ◌++◌, map, length, get_or, take, drop, Ok, Err, sym, refl, ap, ◌∙◌, subst, arith, rules}
+use Rattle.std.proofs.Common.{◌≡◌, ◌+◌, ◌-◌, ◌*◌, ◌<◌, ◌≤◌, map, length, get_or, take, drop, Ok, refl, ap, ◌∙◌, arith}
 use borrow.Rule.Slice.PartMut.{put_mid}
 use Rattle.std.proofs.lemmas.List.{length-take, length-drop}
 use Rattle.std.proofs.lemmas.Bool.{ltb-false}
 use Rattle.synopsis.specs.Kind.{encode_answer, encode_after, longest}
-use Rattle.synopsis.proofs.Fits.{encode_ok, encode_over}
-use Rattle.network.specs.Calls.{placed, slot_start}
+use Rattle.synopsis.proofs.Fits.{encode_over}
 use Rattle.network.proofs.Refusing.{form_at, placed_is, encoded_ok, encoded_not}
 use Rattle.network.proofs.calls.encode_at.Goals as goal
 

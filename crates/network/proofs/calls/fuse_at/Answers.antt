@@ -1,6 +1,6 @@
 use Rattle.network.proofs.Refusing.{fused_at}
 use Rattle.network.proofs.calls.fuse_at.Goals as goal
-use Rattle.std.proofs.Common.{◌≡◌, sym, ap, ◌∙◌}
+use Rattle.std.proofs.Common.{sym, ap, ◌∙◌}
 
 pub returns : goal.returns
 returns g c =

@@ -2,7 +2,6 @@ use Rattle.std.proofs.Common.{◌≡◌, ℕ, ◌+◌, ◌-◌, ◌*◌, ◌^◌
 use Rattle.std.specs.List.{flat_map}
 use Rattle.std.proofs.lemmas.List.{take_all, append-nil}
 use Rattle.records.specs.Records.{cut}
-use Rattle.records.proofs.Layouts.{read_whole}
 use Rattle.records.proofs.Walks.{room, no_room, cut_step, back_step, part_length, part_is}
 use Rattle.records.proofs.record.get_all.Goals as goal
 

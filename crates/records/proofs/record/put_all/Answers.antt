@@ -1,7 +1,6 @@
 use Rattle.std.proofs.Common.{◌≡◌, ℕ, ◌+◌, ◌-◌, ◌*◌, ◌^◌, ◌<◌, ◌≤◌, length, sym, refl, ap, ◌∙◌, arith, rules}
 use Rattle.std.specs.List.{flat_map}
 use Rattle.std.proofs.lemmas.List.{take_all}
-use Rattle.records.proofs.Layouts.{put_whole}
 use Rattle.records.proofs.Walks.{room, no_room, put_step, part_length}
 use Rattle.records.proofs.record.put_all.Goals as goal
 

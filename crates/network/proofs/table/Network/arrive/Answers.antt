@@ -1,4 +1,4 @@
-use Rattle.std.proofs.Common.{◌≡◌, ◌<◌, length, Ok, sym, ap, ◌∙◌, subst}
+use Rattle.std.proofs.Common.{◌<◌, length, sym, ap, ◌∙◌}
 use Rattle.network.specs.Calls.{no_node, accepted}
 use Rattle.network.proofs.Refusing.{ready_ok, node_ok}
 use Rattle.network.proofs.table.Network.arrive.Goals as goal

@@ -1,4 +1,4 @@
-use Rattle.std.proofs.Common.{◌≡◌, ◌<◌, List, map, length, get_or, Ok, sym, ap, ◌∙◌, subst, arith}
+use Rattle.std.proofs.Common.{◌<◌, map, length, get_or, Ok, sym, ◌∙◌, subst}
 use Rattle.network.specs.Calls.{no_node, Fused}
 use Rattle.network.proofs.Refusing.{ready_ok, node_ok}
 use Rattle.network.proofs.table.Network.generate.Goals as goal

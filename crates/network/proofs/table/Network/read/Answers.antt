@@ -1,6 +1,6 @@
-use Rattle.std.proofs.Common.{◌≡◌, ℕ, ◌<◌, ◌≤◌, ltb, List, ◌++◌, map, length, get_or, drop, Ok, Err, sym, ap, ◌∙◌, subst, arith}
+use Rattle.std.proofs.Common.{◌≡◌, ℕ, ◌<◌, ltb, ◌++◌, map, length, get_or, drop, Ok, sym, ap, ◌∙◌, arith}
 use Rattle.std.proofs.lemmas.Bool.{cond-true, cond-false, lt-ltb, le-ltb}
-use Rattle.synopsis.specs.Kind.{encode_answer, encode_after, over}
+use Rattle.synopsis.specs.Kind.{encode_answer, encode_after}
 use Rattle.synopsis.proofs.Fits.{over_so, over_not}
 use Rattle.network.specs.declared.fault.NetworkFault.TheVariants.{Room}
 use Rattle.network.specs.Calls.{no_node, unless}

@@ -1,4 +1,4 @@
-use Rattle.std.proofs.Common.{take, drop, sym, ap, ◌∙◌, rules}
+use Rattle.std.proofs.Common.{sym, ap, ◌∙◌, rules}
 use Rattle.records.proofs.Layouts.{whole_width}
 use Rattle.sample.specs.Records.{sample_layout}
 use Rattle.sample.specs.Layouts.{parts_read}

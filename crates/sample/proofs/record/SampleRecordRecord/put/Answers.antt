@@ -1,6 +1,5 @@
-use Rattle.std.proofs.Common.{◌++◌, take, drop, sym, ◌∙◌, rules}
-use borrow.Rule.Slice.PartMut.{put_mid, post_of}
-use Rattle.records.specs.Records.{number_layout, numbers}
+use Rattle.std.proofs.Common.{◌++◌, sym, ◌∙◌, rules}
+use borrow.Rule.Slice.PartMut.{post_of}
 use Rattle.records.proofs.Layouts.{put_whole}
 use Rattle.sample.specs.Records.{sample_layout}
 use Rattle.sample.specs.Layouts.{parts_written}
