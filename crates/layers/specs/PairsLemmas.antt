@@ -172,23 +172,23 @@ module _ (a b : Kind) (h : overlong (pair_kind a b) ≡ false) (x : a.Form) (y :
       → p ≡ encode_after a x (between 6 (6 + n) (head ++ drop 6 out))
       → q ≡ encode_after b y (between (6 + n) (6 + n + m) (put_mid 6 (6 + n - 6) (head ++ drop 6 out) p))
       → put_mid (6 + n) (6 + n + m - (6 + n)) (put_mid 6 (6 + n - 6) (head ++ drop 6 out) p) q ≡ encode_after (pair_kind a b) (x, y) out
-  pair_written out head p q n m n-is m_is room head-is p-is q-is =
+  pair_written out head p q n m n_is m_is room head_is p_is q_is =
       let at = 6 + n in
       let end = 6 + n + m in
-      let whole = pair_length n m n-is m_is in
-      let first : n ≡ length (a.encoding x) = n-is ∙ fits_length a (first_fits a b h) x in
+      let whole = pair_length n m n_is m_is in
+      let first : n ≡ length (a.encoding x) = n_is ∙ fits_length a (first_fits a b h) x in
       let second : m ≡ length (b.encoding y) = m_is ∙ fits_length b (second_fits a b h) y in
-      let six : length head ≡ 6 = ap length head-is in
+      let six : length head ≡ 6 = ap length head_is in
       let written = next_written head out 6 at six (omega arith) p in
       let p_filled : p ≡ a.encoding x =
-      p-is ∙ filled a (first_fits a b h) x (between 6 at (head ++ drop 6 out)) (next_length head out 6 at six (omega arith) (omega arith) ∙ omega arith) in
+      p_is ∙ filled a (first_fits a b h) x (between 6 at (head ++ drop 6 out)) (next_length head out 6 at six (omega arith) (omega arith) ∙ omega arith) in
       let front : length (head ++ p) ≡ at = simp length-append (omega (arith, ap length p_filled)) in
       let q_filled : q ≡ b.encoding y =
-      q-is
+      q_is
       ∙ ap (λ (l : List ℕ). encode_after b y (between at end l)) written
       ∙ filled b (second_fits a b h) y (between at end ((head ++ p) ++ drop at out)) (next_length (head ++ p) out at end front (omega arith) (omega arith) ∙ omega arith) in
       let parts : (head ++ p) ++ q ≡ pair_bytes (a.encoding x) (b.encoding y) =
-      ap (λ (l : List ℕ). (l ++ p) ++ q) (head-is ∙ ap (λ (i : ℕ). pair_head (6 + i) (6 + i + m)) first ∙ ap (λ (i : ℕ). pair_head (6 + length (a.encoding x)) (6 + length (a.encoding x) + i)) second)
+      ap (λ (l : List ℕ). (l ++ p) ++ q) (head_is ∙ ap (λ (i : ℕ). pair_head (6 + i) (6 + i + m)) first ∙ ap (λ (i : ℕ). pair_head (6 + length (a.encoding x)) (6 + length (a.encoding x) + i)) second)
       ∙ ap (λ (l : List ℕ). (pair_head (6 + length (a.encoding x)) (6 + length (a.encoding x) + length (b.encoding y)) ++ l) ++ q) p_filled
       ∙ ap (λ (l : List ℕ). (pair_head (6 + length (a.encoding x)) (6 + length (a.encoding x) + length (b.encoding y)) ++ a.encoding x) ++ l) q_filled in
       ap (λ (l : List ℕ). put_mid at (end - at) l q) written
@@ -202,10 +202,10 @@ pub pair_read : (a b : Kind) → overlong (pair_kind a b) ≡ false → (bytes :
     → read_part a 6 at bytes ≡ Ok x → a.encoding x ≡ between 6 at bytes
     → read_part b at (length bytes) bytes ≡ Ok y → b.encoding y ≡ between at (length bytes) bytes
     → ((pair_kind a b).decoding bytes ≡ Ok (x, y)) × (pair_bytes (a.encoding x) (b.encoding y) ≡ bytes)
-pair_read a b h bytes at x y e small first first-is second second_is = (
+pair_read a b h bytes at x y e small first first_is second second_is = (
   cond-false (overlong (pair_kind a b)) _ _ h
       ∙ ap (λ (r : Result ℕ DecodeFault). then_read r (read_sides a b bytes)) e
       ∙ ap (λ (r : Result a.Form DecodeFault). then_read r (λ z. then_read (read_part b at (length bytes) bytes) (λ w. Ok (z, w)))) first
       ∙ ap (λ (r : Result b.Form DecodeFault). then_read r (λ w. Ok (x, w))) second,
-  ap (λ (l : List ℕ). pair_bytes l (b.encoding y)) first-is ∙ ap (pair_bytes (between 6 at bytes)) second_is ∙ sides_whole bytes at e small,
+  ap (λ (l : List ℕ). pair_bytes l (b.encoding y)) first_is ∙ ap (pair_bytes (between 6 at bytes)) second_is ∙ sides_whole bytes at e small,
 )

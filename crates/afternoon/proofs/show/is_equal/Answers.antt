@@ -1,6 +1,8 @@
+use Rattle.std.proofs.Common.{rules}
 use Rattle.std.proofs.lemmas.Slice.Eq.{slice_eq-Decides}
-use Rattle.afternoon.proofs.show.is_equal.Goals as goal
 use Rattle.std.proofs.lemmas.Bool.Decides.{Decides-eqb}
+use Rattle.afternoon.proofs.show.is_equal.Goals as goal
 
+-- the test is found, and not named, so that another test fails as a fact
 pub returns : goal.returns
-returns c = slice_eq-Decides Decides-eqb _ _ _ c.eq.ensures
+returns c = search (slice_eq-Decides Decides-eqb, rules)
