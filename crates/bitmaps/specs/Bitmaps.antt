@@ -1,5 +1,6 @@
 -- Bitmaps: the kind with number 1, whose forms are 64 maps of 32 bits, and the estimate from them.
-use Rattle.std.specs.Prelude.{◌≡◌, ℕ, zero, suc, ◌+◌, ◌-◌, ◌*◌, ◌/◌, ◌%◌, ◌^◌, ◌<◌, ◌≤◌, Bool, true, false, cond, ◌&&◌, List, [], ◌∷◌, length, replicate, Ok, Err, sum_by, Result, ◌==◌, bit_or, nat_le, slice_set, refl}
+use Rattle.std.specs.Prelude.{◌≡◌, ℕ, zero, suc, ◌+◌, ◌-◌, ◌*◌, ◌/◌, ◌%◌, ◌^◌, ◌<◌, ◌≤◌, Bool, true, false, cond, List, [], ◌∷◌, length, replicate, Ok, Err, sum_by, Result, ◌==◌, bit_or, nat_le, slice_set, refl}
+use Rattle.std.specs.List.{list_all}
 use Rattle.std.specs.Int.Count.{count_trailing_zeros}
 use Rattle.std.proofs.lemmas.Bool.{eqb-true}
 use Rattle.readings.specs.Readings.{hash_of, mark_of}
@@ -100,8 +101,7 @@ scaled sum = eighth_root (sum / 8 % 8) * 2 ^ (sum / 8 / 8) * 100000 / 77351
 
 -- whether no bit is set
 abbrev pub none_set : List ℕ → Bool
-none_set [] = true
-none_set (m ∷ ms) = m == 0 && none_set ms
+none_set maps = list_all (λ m. m == 0) maps
 
 -- how many different readings the maps tell of
 abbrev pub estimate_of : List ℕ → ℕ

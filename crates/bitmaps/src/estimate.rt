@@ -9,12 +9,7 @@ use crate::zeros::sum_of_zeros;
 fn is_blank(maps: &[u32]) -> bool
     ensures { result ≡ none_set maps.now }
 {
-    for map in maps {
-        if *map != 0 {
-            return false;
-        }
-    }
-    true
+    maps.iter().all(|map| *map == 0)
 }
 
 // t * 2^w * 100000 div 77351: the whole product, and then the one division.

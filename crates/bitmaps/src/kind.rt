@@ -1,4 +1,4 @@
-ghost use Rattle.std.specs.Prelude.{◌≡◌, ◌^◌, ◌<◌};
+ghost use Rattle.std.specs.Prelude.{◌≡◌, refl, ◌^◌, ◌<◌};
 ghost use Rattle.bitmaps.specs.Bitmaps.{bitmaps_kind, bitmaps_form};
 ghost use Rattle.bitmaps.specs.Forms.{bitmaps_laws};
 
@@ -16,18 +16,19 @@ fn bit(rank: u32) -> u32
     1 << rank
 }
 
+// Each kind has these calls of its own, in a line or two that say what differs.
 impl Synopsis for Bitmaps {
     const NUMBER: u8 = 1;
+
+    ghost NUMBER = { 1 };
 
     ghost kind = { bitmaps_kind };
 
     ghost form = { bitmaps_form };
 
-    ghost lawful = { bitmaps_laws };
+    ghost numbered = { refl };
 
-    fn kind_number() -> u8 {
-        Self::NUMBER
-    }
+    ghost lawful = { bitmaps_laws };
 
     fn greatest_length() -> usize {
         260
@@ -45,8 +46,9 @@ impl Synopsis for Bitmaps {
     }
 
     fn fuse(&mut self, other: &Self) {
-        for i in 0..64 {
-            self.maps[i] |= other.maps[i];
+        // By index: after a loop over `iter_mut().zip(..)` a proof knows nothing of what was written.
+        for (i, theirs) in other.maps.iter().enumerate() {
+            self.maps[i] |= *theirs;
         }
     }
 
@@ -60,12 +62,8 @@ impl Synopsis for Bitmaps {
 
     fn decode(&mut self, frame: &[u8]) -> Result<(), DecodeFault> {
         let mut maps = [0; 64];
-        match decode_records(Self::NUMBER, 64, frame, &mut maps) {
-            Ok(_) => {
-                *self = Bitmaps { maps };
-                Ok(())
-            }
-            Err(fault) => Err(fault),
-        }
+        decode_records(Self::NUMBER, 64, frame, &mut maps)?;
+        *self = Bitmaps { maps };
+        Ok(())
     }
 }

@@ -1,5 +1,5 @@
 // The map of each bucket: bit r is set where a reading had that bucket and rank r.
-#[derive(Clone, Copy)]
+#[derive(Clone, Copy, PartialEq, Eq)]
 pub struct Bitmaps {
     pub maps: [u32; 64],
 }

@@ -7,6 +7,7 @@ pub(crate) fn eighth_root(j: u32) -> u64
     ensures { EighthRoot j result }
 {
     let most: u64 = 1 << (j + 48);
+    // A search that goes up from 64, at most some fifty steps; as a chain, `take_while(..).last()`, it is no plainer.
     let mut t: u64 = 64;
     while (t + 1).pow(8) <= most {
         t += 1;

@@ -1,5 +1,5 @@
 -- A turn that is brought a front part of the values and of the memory does what it would do with all of them.
-use Rattle.std.proofs.Common.{◌≡◌, ℕ, ◌+◌, ◌<◌, ◌≤◌, Bool, true, false, ◌||◌, T, ltb, leb, List, ◌++◌, length, get_or, take, drop, set, Ok, Result, sym, refl, ap, ◌∙◌, subst, ⊎_elim, arith}
+use Rattle.std.proofs.Common.{◌≡◌, ℕ, ◌+◌, ◌<◌, ◌≤◌, Bool, true, false, ◌||◌, T, ltb, leb, List, ◌++◌, length, get_or, take, drop, set, None, Ok, Result, sym, refl, ap, ◌∙◌, subst, ⊎_elim, arith}
 use Rattle.std.proofs.lemmas.List.{take-append-drop, get_or-take, set-append_left, length-take, take-take, drop-append-le, append_assoc}
 use Rattle.std.proofs.lemmas.Bool.{cases_lt, le-leb, leb-false, ltb-false, or_parts}
 use Rattle.synopsis.specs.Kind.{Kind, Laws, overlong}
@@ -8,8 +8,7 @@ use Rattle.histories.specs.declared.Call.TheVariants.{Generate, Arrive, Send, De
 use Rattle.histories.specs.Folds.{read_as}
 use Rattle.network.specs.declared.fault.NetworkFault.{NetworkFault}
 use Rattle.network.specs.declared.fault.NetworkFault.TheVariants.{Brought, Overlong, NoNode, Room}
-use Rattle.network.specs.declared.slot.Slot.TheVariants.{Free, Filled}
-use Rattle.network.specs.Calls.{unless, ready, no_node, beyond, slot_start, no_slot, placed, switched, read_answer, deliver_answer}
+use Rattle.network.specs.Calls.{unless, ready, no_node, beyond, slot_start, no_slot, placed, slot_of, switched, read_answer, deliver_answer}
 use Rattle.diffusion.proofs.Lying.{front_frame}
 use Rattle.diffusion.specs.Turns.{Told, is_accepted, plainly, with_bytes, State, form_of, call_tells, fused, call_leaves}
 
@@ -119,12 +118,12 @@ module _ (k : Kind) (laws : Laws k) (st : State k) (v m : ℕ) (values : v ≤ l
       let small : k.greatest ≤ 2048 = ltb-false 2048 k.greatest a.2 in
       let slot : s < 32 = c.0 in
       let fits : slot_start s + length (k.encoding (form_of k st n)) ≤ m = omega arith in
-      ap (λ (x : k.Form). record { net = switched st.net s (Filled n (length (k.encoding x))); forms = take v st.forms ++ drop v st.forms; memory = placed (take m st.memory) (slot_start s) (k.encoding x) ++ drop m st.memory }) same
-      ∙ (λ i. record { net = switched st.net s (Filled n (length (k.encoding (form_of k st n)))); forms = take-append-drop v st.forms i; memory = front_placed st.memory (k.encoding (form_of k st n)) m (slot_start s) fits room i })
+      ap (λ (x : k.Form). record { net = switched st.net s (slot_of n (length (k.encoding x))); forms = take v st.forms ++ drop v st.forms; memory = placed (take m st.memory) (slot_start s) (k.encoding x) ++ drop m st.memory }) same
+      ∙ (λ i. record { net = switched st.net s (slot_of n (length (k.encoding (form_of k st n)))); forms = take-append-drop v st.forms i; memory = front_placed st.memory (k.encoding (form_of k st n)) m (slot_start s) fits room i })
   front_leaves (Deliver s n) q =
       let a = ready_on k st v m _ q in
       let c = slot_on k st v m s _ a.3 in
       let b = node_on k st v m n _ c.1 in
       ap (λ (l : List ℕ). whole (fused k front n (read_as k (k.decoding l)))) (front_frame st.memory m s (get_or st.net.slots s no_slot) c.0 a.1 room) ∙ fused_front n _ (omega arith)
-  front_leaves (Drop s) q = λ i. record { net = switched st.net s Free; forms = take-append-drop v st.forms i; memory = take-append-drop m st.memory i }
+  front_leaves (Drop s) q = λ i. record { net = switched st.net s None; forms = take-append-drop v st.forms i; memory = take-append-drop m st.memory i }
   front_leaves (Read n wanted) q = front_same

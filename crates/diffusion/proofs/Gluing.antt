@@ -1,11 +1,11 @@
 -- A turn, from the call that it makes with its front part of the values and of the memory.
-use Rattle.std.proofs.Common.{◌≡◌, ℕ, ◌-◌, ◌≤◌, min, Bool, true, false, cond, List, ◌++◌, map, length, take, drop, sym, refl, ap, ◌∙◌, arith}
+use Rattle.std.proofs.Common.{◌≡◌, ℕ, ◌-◌, ◌≤◌, min, Bool, true, false, cond, List, ◌++◌, map, length, take, drop, Ok, Err, Result, IfOk, MatchResult, sym, refl, ap, ◌∙◌, arith}
 use borrow.Rule.Slice.PartMut.{post_of}
 use Rattle.std.proofs.lemmas.List.{take-map, drop-map, map-append, length-map, length-take, take-append-drop}
 use Rattle.synopsis.specs.Kind.{Kind, Laws}
 use Rattle.histories.specs.declared.Turn.{Turn}
 use Rattle.network.specs.declared.table.Network.{Network}
-use Rattle.diffusion.specs.Turns.{Told, is_accepted, State, state_of, call_tells, call_leaves, call_after, turn_tells, turn_leaves}
+use Rattle.diffusion.specs.Turns.{Told, is_accepted, TurnAnswer, tells, State, state_of, call_tells, call_leaves, call_after, turn_tells, turn_leaves}
 use Rattle.diffusion.proofs.Fronts.{front, whole, front_same, front_tells, front_leaves}
 
 -- what a part and what lies behind it come to, where the part is as it was
@@ -77,3 +77,14 @@ module _ {S : Type 0} (k : Kind) (laws : Laws k) (form : S → k.Form) (net : Ne
       ∙ ap (whole k laws st v m v_le m_le) (q ∙ ap (λ (s : State k). call_after k s told t.call) part_front)
       ∙ by_accepted told (turn ∙ sym here) (is_accepted told) refl
       ∙ ap (λ (w : Told). cond (is_accepted w) (call_leaves k st t.call) st) turn
+
+  -- so the turn answers what its call does, and leaves what it leaves; where there is no answer, all is as it was
+  pub turn_answers : {E : Type 0} (r : Result TurnAnswer E) → IfOk r (λ a. tells a ≡ call_tells k part (length (take (v - 0) values)) (length (take (m - 0) memory)) t.call) → IfOk r (λ a. tells a ≡ turn_tells k st t)
+  turn_answers (Ok a) e = glued_tells (tells a) e
+  turn_answers (Err x) e = tt
+
+  pub turn_after : {E : Type 0} (r : Result TurnAnswer E) (net' : Network) (values' : List S) (memory' : List ℕ) → IfOk r (λ a. tells a ≡ call_tells k part (length (take (v - 0) values)) (length (take (m - 0) memory)) t.call)
+      → MatchResult r (λ a. state_of k form net' values' memory' ≡ call_after k part (tells a) t.call) (λ _. (net' ≡ net) × (memory' ≡ take (m - 0) memory))
+      → MatchResult r (λ _. state_of k form net' (values' ++ post_of 0 (v - 0) values) (memory' ++ post_of 0 (m - 0) memory) ≡ turn_leaves k st t) (λ _. (net' ≡ net) × (memory' ++ post_of 0 (m - 0) memory ≡ memory))
+  turn_after (Ok a) net' values' memory' e q = glued_leaves (tells a) net' values' memory' e q
+  turn_after (Err x) net' values' memory' e q = (q.0, part_same memory memory' m q.1)

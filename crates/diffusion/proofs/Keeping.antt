@@ -1,5 +1,5 @@
 -- What holds after every turn of a run.
-use Rattle.std.proofs.Common.{◌≡◌, ℕ, ◌<◌, ◌≤◌, min, Bool, true, false, cond, ◌||◌, eqb, ltb, leb, List, [], ◌∷◌, length, get_or, take, set, replicate, Ok, Err, Result, sym, refl, ap, ◌∙◌, subst, ⊎_elim, arith}
+use Rattle.std.proofs.Common.{◌≡◌, ℕ, ◌<◌, ◌≤◌, min, Bool, true, false, cond, ◌||◌, eqb, ltb, leb, List, [], ◌∷◌, length, get_or, take, set, replicate, None, Option, Ok, Err, Result, sym, refl, ap, ◌∙◌, subst, ⊎_elim, arith}
 use Rattle.std.proofs.lemmas.List.{length-set, length-replicate, get_or-replicate, get_or-take, get_or-set_same, get_or-set_other}
 use Rattle.std.proofs.lemmas.Bool.{cond-true, cond-false, cases_lt, cases_eq, lt-ltb, le-ltb, ltb-false, leb-false, or_parts, or_left, eq-eqb, ne_eqb, both_ways}
 use Rattle.synopsis.specs.declared.fault.DecodeFault.{DecodeFault}
@@ -13,10 +13,9 @@ use Rattle.histories.specs.Folds.{read_as, gift_form, node_form, slot_form}
 use Rattle.histories.proofs.Folding.{gave_here, gave_else, gave_slot, sent_here, sent_else, delivered_here, delivered_else, dropped_else}
 use Rattle.network.specs.declared.fault.NetworkFault.{NetworkFault}
 use Rattle.network.specs.declared.fault.NetworkFault.TheVariants.{Brought, Overlong, NoNode, NoSlot, SlotFree, SlotFilled, Room}
-use Rattle.network.specs.declared.slot.Slot.{Slot}
-use Rattle.network.specs.declared.slot.Slot.TheVariants.{Free, Filled}
+use Rattle.network.specs.declared.slot.Filled.{Filled}
 use Rattle.network.specs.declared.table.Network.{Network}
-use Rattle.network.specs.Calls.{unless, accepted, ready, is_filled, slot_start, slot_frame, no_slot}
+use Rattle.network.specs.Calls.{unless, accepted, ready, slot_of, is_filled, slot_start, slot_frame, no_slot}
 use Rattle.diffusion.specs.Turns.{Told, done, bytes, refused, is_accepted, plainly, with_bytes, State, form_of, call_tells, turn_tells, fused, call_leaves, turn_leaves, Opened}
 use Rattle.diffusion.specs.Owed.{of_decoding, call_owes, owes}
 use Rattle.diffusion.proofs.Lying.{length_placed, front_frame, frame_here, frame_else}
@@ -73,16 +72,16 @@ module _ (k : Kind) (nodes : ℕ) where
   -- it holds at the start
   pub holding_opened : (st : State k) → Opened k nodes st → Holding [] st
   holding_opened st o =
-      let free : st.net.slots ≡ replicate 32 Free = ap (λ (net : Network). net.slots) o.table in
+      let free : st.net.slots ≡ replicate 32 None = ap (λ (net : Network). net.slots) o.table in
       record {
         short = o.short;
         values = o.values;
         room = o.room;
         count = ap (λ (net : Network). net.count) o.table;
-        slots = ap length free ∙ length-replicate 32 Free;
+        slots = ap length free ∙ length-replicate 32 no_slot;
         sound = tt;
         nodes_hold = λ n lt. sym (get_or-take nodes st.forms n k.none lt) ∙ ap (λ (l : List k.Form). get_or l n k.none) o.empty ∙ get_or-replicate nodes n k.none k.none lt;
-        table = λ s lt. ap (λ (l : List Slot). is_filled (get_or l s no_slot)) free ∙ ap is_filled (get_or-replicate 32 s Free no_slot lt);
+        table = λ s lt. ap (λ (l : List (Option Filled)). is_filled (get_or l s no_slot)) free ∙ ap is_filled (get_or-replicate 32 s no_slot no_slot lt);
         lies = λ s lt e. absurd (both_ways false refl e);
       }
 
@@ -231,7 +230,7 @@ module _ (k : Kind) (laws : Laws k) (nodes : ℕ) (h : History) (st : State k) (
       let long = on.room in
       let held = on.slots in
       let most : length bs ≤ 2048 = let a = laws.most on.short (form_of k st n) in let b = ltb-false 2048 k.greatest on.short in omega arith in
-      let entry = Filled n (length bs) in
+      let entry = slot_of n (length bs) in
       let here : get_or (set st.net.slots r entry) r no_slot ≡ entry = get_or-set_same st.net.slots r entry no_slot (omega arith) in
       let else : (s : ℕ) → (s ≡ r → ⊥) → get_or (set st.net.slots r entry) s no_slot ≡ get_or st.net.slots s no_slot = λ s apart. get_or-set_other st.net.slots r s entry no_slot apart in
       let full : filled (sent n r ∷ h) r ≡ true = or_left (eqb r r) (filled h r) (eq-eqb r r refl) in
@@ -265,8 +264,8 @@ module _ (k : Kind) (laws : Laws k) (nodes : ℕ) (h : History) (st : State k) (
   dropped_holds : (r : ℕ) → r < 32 → Holding k nodes (dropped r ∷ h) (call_leaves k st (Drop r))
   dropped_holds r lr =
       let held = on.slots in
-      let here : get_or (set st.net.slots r Free) r no_slot ≡ Free = get_or-set_same st.net.slots r Free no_slot (omega arith) in
-      let else : (s : ℕ) → (s ≡ r → ⊥) → get_or (set st.net.slots r Free) s no_slot ≡ get_or st.net.slots s no_slot = λ s apart. get_or-set_other st.net.slots r s Free no_slot apart in
+      let here : get_or (set st.net.slots r None) r no_slot ≡ None = get_or-set_same st.net.slots r None no_slot (omega arith) in
+      let else : (s : ℕ) → (s ≡ r → ⊥) → get_or (set st.net.slots r None) s no_slot ≡ get_or st.net.slots s no_slot = λ s apart. get_or-set_other st.net.slots r s None no_slot apart in
       let empty : (s : ℕ) → s ≡ r → filled (dropped r ∷ h) s ≡ false = λ s e. cond-true (eqb r s) false (filled h s) (eq-eqb r s (sym e)) in
       let same : (s : ℕ) → (s ≡ r → ⊥) → filled (dropped r ∷ h) s ≡ filled h s = λ s apart. cond-false (eqb r s) false (filled h s) (ne_eqb r s (λ e. apart (sym e))) in
       record {
@@ -274,12 +273,12 @@ module _ (k : Kind) (laws : Laws k) (nodes : ℕ) (h : History) (st : State k) (
         values = on.values;
         room = on.room;
         count = on.count;
-        slots = length-set st.net.slots r Free ∙ held;
+        slots = length-set st.net.slots r None ∙ held;
         sound = on.sound;
         nodes_hold = on.nodes_hold;
         table = λ s ls.
             ⊎_elim
-            (λ e. ap (λ (j : ℕ). is_filled (get_or (set st.net.slots r Free) j no_slot)) e ∙ ap is_filled here ∙ sym (empty s e))
+            (λ e. ap (λ (j : ℕ). is_filled (get_or (set st.net.slots r None) j no_slot)) e ∙ ap is_filled here ∙ sym (empty s e))
             (λ apart. ap is_filled (else s apart) ∙ on.table s ls ∙ sym (same s apart))
             (cases_eq s r);
         lies = λ s ls f.

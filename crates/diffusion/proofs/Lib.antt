@@ -1,4 +1,3 @@
-pub mod Making
 pub mod Lying
 pub mod Fronts
 pub mod Gluing

@@ -8,10 +8,9 @@ use Rattle.histories.specs.Deeds.{History, deed}
 use Rattle.network.specs.declared.table.Network.{Network}
 use Rattle.network.proofs.Refusing.{not_refused}
 use Rattle.network.specs.Calls.{open_answer, opened_network, Emptied}
-use Rattle.diffusion.specs.declared.answer.Answer.{Answer}
-use Rattle.diffusion.specs.Turns.{Told, is_accepted, tells, State, state_of, turn_tells, turn_leaves, Opened, Ran, opened, then, Made}
+use Rattle.diffusion.specs.Turns.{Told, is_accepted, TurnAnswer, tells, State, state_of, turn_tells, turn_leaves, Opened, Ran, opened, then, Made}
 
-pub opened_state : {S : Type 0} (k : Kind) (form : S → k.Form) (nodes : ℕ) (net : Network) (before after : List S) (memory : List ℕ) → Ok tt ≡ open_answer k nodes (length before) (length memory) → net ≡ opened_network nodes → Emptied form k.none before after nodes → Opened k nodes (state_of k form net after memory)
+opened_state : {S : Type 0} (k : Kind) (form : S → k.Form) (nodes : ℕ) (net : Network) (before after : List S) (memory : List ℕ) → Ok tt ≡ open_answer k nodes (length before) (length memory) → net ≡ opened_network nodes → Emptied form k.none before after nodes → Opened k nodes (state_of k form net after memory)
 opened_state k form nodes net before after memory q table e =
     let a = not_refused (ltb nodes 1 || ltb 16 nodes) _ _ q in
     let b = not_refused (ltb (length before) nodes || ltb (length memory) 65536) _ _ a.1 in
@@ -32,7 +31,7 @@ opened_state k form nodes net before after memory q table e =
 
 module _ (k : Kind) (nodes : ℕ) (turns : List Turn) where
   -- one turn more
-  pub ran_more : (i : ℕ) (t : Turn) (answers more : List Answer) (a : Answer) (h : History) (st after : State k) → i < length turns → t ≡ get_or turns i t → Ran k nodes (take i turns) (map tells answers) h st → tells a ≡ turn_tells k st t → more ≡ answers ++ a ∷ [] → after ≡ turn_leaves k st t → (h' : History) × Ran k nodes (take (i + 1) turns) (map tells more) h' after
+  pub ran_more : (i : ℕ) (t : Turn) (answers more : List TurnAnswer) (a : TurnAnswer) (h : History) (st after : State k) → i < length turns → t ≡ get_or turns i t → Ran k nodes (take i turns) (map tells answers) h st → tells a ≡ turn_tells k st t → more ≡ answers ++ a ∷ [] → after ≡ turn_leaves k st t → (h' : History) × Ran k nodes (take (i + 1) turns) (map tells more) h' after
   ran_more i t answers more a h st after lt read run told pushed left =
       let ts : take i turns ++ t ∷ [] ≡ take (i + 1) turns = ap (λ (u : Turn). take i turns ++ u ∷ []) read ∙ sym (take_more turns i t lt) in
       let ws : map tells answers ++ turn_tells k st t ∷ [] ≡ map tells more = ap (λ (w : Told). map tells answers ++ w ∷ []) (sym told) ∙ sym (map_push tells answers a) ∙ ap (map tells) (sym pushed) in
@@ -44,7 +43,7 @@ module _ (k : Kind) (nodes : ℕ) (turns : List Turn) where
       )
 
   -- what the turns so far came to
-  pub made_so : (i : ℕ) (answers : List Answer) (whole : Bool) (h : History) (st : State k) → length answers ≡ i → i ≤ length turns → (whole ≡ true → i ≡ length turns) → Ran k nodes (take i turns) (map tells answers) h st → Made k nodes turns (map tells answers) whole st
+  pub made_so : (i : ℕ) (answers : List TurnAnswer) (whole : Bool) (h : History) (st : State k) → length answers ≡ i → i ≤ length turns → (whole ≡ true → i ≡ length turns) → Ran k nodes (take i turns) (map tells answers) h st → Made k nodes turns (map tells answers) whole st
   made_so i answers whole h st long le all run =
       let n : length (map tells answers) ≡ i = length-map answers tells ∙ long in
       record {
@@ -55,8 +54,9 @@ module _ (k : Kind) (nodes : ℕ) (turns : List Turn) where
       }
 
 -- before the first turn
-pub at_start : (k : Kind) (nodes : ℕ) (answers : List Answer) (st : State k) → answers ≡ [] → Opened k nodes st → Ran k nodes [] (map tells answers) [] st
-at_start k nodes answers st e o = subst (λ (l : List Answer). Ran k nodes [] (map tells l) [] st) (sym e) (opened o)
+pub started : {S : Type 0} (k : Kind) (form : S → k.Form) (nodes : ℕ) (net : Network) (before after : List S) (memory : List ℕ) (answers : List TurnAnswer) → Ok tt ≡ open_answer k nodes (length before) (length memory) → net ≡ opened_network nodes → Emptied form k.none before after nodes → answers ≡ [] → Ran k nodes [] (map tells answers) [] (state_of k form net after memory)
+started k form nodes net before after memory answers q table e none =
+    subst (λ (l : List TurnAnswer). Ran k nodes [] (map tells l) [] (state_of k form net after memory)) (sym none) (opened (opened_state k form nodes net before after memory q table e))
 
 pub not_all : {n m : ℕ} → false ≡ true → n ≡ m
 not_all e = absurd (subst T (sym e) tt)

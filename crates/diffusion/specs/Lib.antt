@@ -1,3 +1,5 @@
 pub mod Turns
+pub mod Runs
 pub mod Owed
 pub mod Promise
+pub mod Faults

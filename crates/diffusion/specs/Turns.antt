@@ -1,5 +1,6 @@
 -- What a turn does, by the contracts of the calls; and whole runs of turns.
-use Rattle.std.specs.Prelude.{◌≡◌, ℕ, ◌≤◌, min, Bool, true, false, cond, List, [], ◌∷◌, ◌++◌, map, length, take, replicate, Ok, Err, vec_items, Result, slice_index_or, slice_set}
+use Rattle.std.specs.Prelude.{◌≡◌, ℕ, ◌≤◌, min, Bool, true, false, cond, List, [], ◌∷◌, ◌++◌, map, length, take, replicate, None, Some, Option, Ok, Err, Result, Vec, slice_index_or, slice_set}
+use Rattle.std.specs.Global.{Global}
 use Rattle.synopsis.specs.Kind.{Kind, overlong}
 use Rattle.histories.specs.declared.Call.{Call}
 use Rattle.histories.specs.declared.Call.TheVariants.{Generate, Arrive, Send, Deliver, Drop, Read}
@@ -7,11 +8,8 @@ use Rattle.histories.specs.declared.Turn.{Turn}
 use Rattle.histories.specs.Deeds.{deed, History}
 use Rattle.histories.specs.Folds.{read_as}
 use Rattle.network.specs.declared.fault.NetworkFault.{NetworkFault}
-use Rattle.network.specs.declared.slot.Slot.TheVariants.{Free, Filled}
 use Rattle.network.specs.declared.table.Network.{Network}
-use Rattle.network.specs.Calls.{generate_answer, arrive_answer, send_answer, deliver_answer, drop_answer, read_answer, slot_start, slot_frame, no_slot, placed, switched, opened_network}
-use Rattle.diffusion.specs.declared.answer.Answer.{Answer}
-use Rattle.diffusion.specs.declared.answer.Answer.TheVariants as answer
+use Rattle.network.specs.Calls.{generate_answer, arrive_answer, send_answer, deliver_answer, drop_answer, read_answer, slot_start, slot_frame, no_slot, placed, slot_of, switched, opened_network}
 
 -- what an answer tells
 pub data Told : Type 0 where
@@ -24,10 +22,14 @@ is_accepted done = true
 is_accepted (bytes bs) = true
 is_accepted (refused e) = false
 
-abbrev pub tells : Answer → Told
-tells answer.Done = done
-tells (answer.Bytes v) = bytes (vec_items v)
-tells (answer.Refused e) = refused e
+-- an answer as the code has it
+abbrev pub TurnAnswer : Type 0
+TurnAnswer = Result (Option (Vec ℕ Global)) NetworkFault
+
+abbrev pub tells : TurnAnswer → Told
+tells (Ok None) = done
+tells (Ok (Some v)) = bytes v.items
+tells (Err e) = refused e
 
 abbrev pub plainly : Result (Unit {0}) NetworkFault → Told
 plainly (Ok u) = done
@@ -70,12 +72,12 @@ module _ (k : Kind) where
   call_leaves st (Generate n r) = fused st n (k.single r)
   call_leaves st (Arrive n frame) = fused st n (read_as k (k.decoding frame.now))
   call_leaves st (Send n s) = record {
-    net = switched st.net s (Filled n (length (k.encoding (form_of st n))));
+    net = switched st.net s (slot_of n (length (k.encoding (form_of st n))));
     forms = st.forms;
     memory = placed st.memory (slot_start s) (k.encoding (form_of st n));
   }
   call_leaves st (Deliver s n) = fused st n (read_as k (k.decoding (slot_frame st.memory s (slice_index_or st.net.slots s no_slot))))
-  call_leaves st (Drop s) = record { net = switched st.net s Free; forms = st.forms; memory = st.memory }
+  call_leaves st (Drop s) = record { net = switched st.net s None; forms = st.forms; memory = st.memory }
   call_leaves st (Read n room) = st
 
   -- a refused turn leaves everything as it was

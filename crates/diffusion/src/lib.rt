@@ -2,5 +2,6 @@
 #![tactic(auto)]
 
 pub mod answer;
+pub mod fault;
 pub mod run;
 pub mod turn;

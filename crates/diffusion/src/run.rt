@@ -1,25 +1,19 @@
-ghost use Rattle.std.specs.Prelude.{◌≡◌, map, length, IfOk, Ok, Err, MatchResult};
+ghost use Rattle.std.specs.Prelude.{◌≡◌, length, IfOk, Ok, Err, MatchResult, is_ok};
 ghost use Rattle.network.specs.Calls.{open_answer};
-ghost use Rattle.diffusion.specs.Turns.{tells, state_of, Made};
+ghost use Rattle.diffusion.specs.Turns.{state_of, Made};
+ghost use Rattle.diffusion.specs.Runs.{opening, all_told};
 ghost use Rattle.diffusion.specs.Promise.{Promise};
 
 use crate::answer::Answer;
+use crate::fault::RunFault;
 use crate::turn::make_turn;
 use histories::Turn;
-use network::fault::NetworkFault;
 use network::table::Network;
 use std::alloc::Global;
 use synopsis::kind::Synopsis;
 
-// What a list of turns came to: the answers of the turns that were made, and whether these are all of them. Where
-// there is no memory for an answer, its turn and those after it are not made.
-#[derive(Drop)]
-pub struct Outcome {
-    pub answers: Vec<Answer>,
-    pub whole: bool,
-}
-
-// Opens a network, whatever it and its values and memory held, and makes the turns in their order.
+// Opens a network, whatever it and its values and memory held, and makes the turns in their order; the answers are
+// those of all turns.
 pub fn run<S: Synopsis>(
     heap: Global,
     network: &mut Network,
@@ -27,37 +21,20 @@ pub fn run<S: Synopsis>(
     memory: &mut [u8],
     nodes: usize,
     turns: &[Turn<'_>],
-) -> Result<Outcome, NetworkFault>
-    ensures opens { MatchResult result (λ _. open_answer S.Synopsis.kind nodes (length values.old) (length memory.old) ≡ Ok tt) (λ e. (open_answer S.Synopsis.kind nodes (length values.old) (length memory.old) ≡ Err e) × (network.new ≡ network.old) × (values.new ≡ values.old) × (memory.new ≡ memory.old)) }
-    ensures made { IfOk result (λ o. Made S.Synopsis.kind nodes turns.now (map tells o.answers.items) o.whole (state_of S.Synopsis.kind S.Synopsis.form network.new values.new memory.new)) }
+) -> Result<Vec<Answer>, RunFault>
+    ensures opens { MatchResult (opening result) (λ _. open_answer S.Synopsis.kind nodes (length values.old) (length memory.old) ≡ Ok tt) (λ e. (open_answer S.Synopsis.kind nodes (length values.old) (length memory.old) ≡ Err e) × (network.new ≡ network.old) × (values.new ≡ values.old) × (memory.new ≡ memory.old)) }
+    ensures made { IfOk (opening result) (λ _. Made S.Synopsis.kind nodes turns.now (all_told result) (is_ok result) (state_of S.Synopsis.kind S.Synopsis.form network.new values.new memory.new)) }
     ensures promise { Promise S.Synopsis.kind }
 {
-    match network.open(values, memory, nodes) {
-        Ok(()) => {}
-        Err(fault) => return Err(fault),
-    }
-    let mut answers = match Vec::with_capacity(heap, turns.len()) {
-        Ok(answers) => answers,
-        Err(_) => {
-            return Ok(Outcome {
-                answers: Vec::new(heap),
-                whole: false,
-            });
-        }
+    network.open(values, memory, nodes)?;
+    let Ok(mut answers) = Vec::with_capacity(heap, turns.len()) else {
+        return Err(RunFault::Memory(Vec::new(heap)));
     };
-    for t in turns {
-        match make_turn(heap, network, values, memory, t) {
-            Ok(answer) => answers.push_reserved(answer),
-            Err(_) => {
-                return Ok(Outcome {
-                    answers,
-                    whole: false,
-                });
-            }
-        }
+    for turn in turns {
+        let Ok(answer) = make_turn(heap, network, values, memory, turn) else {
+            return Err(RunFault::Memory(answers));
+        };
+        answers.push_reserved(answer);
     }
-    Ok(Outcome {
-        answers,
-        whole: true,
-    })
+    Ok(answers)
 }

@@ -1,10 +1,9 @@
 ghost use Rattle.std.specs.Prelude.{◌≡◌, false, map, length, IfOk, MatchResult};
 ghost use Rattle.histories.specs.declared.Call.TheVariants.{Read};
-ghost use Rattle.diffusion.specs.Turns.{tells, plainly, is_accepted, state_of, call_tells, call_leaves, call_after, turn_tells, turn_leaves};
+ghost use Rattle.diffusion.specs.Turns.{tells, is_accepted, state_of, call_tells, call_leaves, call_after, turn_tells, turn_leaves};
 
 use crate::answer::Answer;
 use histories::{Call, Turn};
-use network::fault::NetworkFault;
 use network::table::Network;
 use std::alloc::{AllocError, Global};
 use synopsis::kind::Synopsis;
@@ -12,15 +11,9 @@ use synopsis::kind::Synopsis;
 // How many bytes a frame has at most.
 const FRAME: usize = 2048;
 
-// The answer that a call's plain result is.
-fn plain(r: Result<(), NetworkFault>) -> Answer
-    ensures { tells result ≡ plainly r }
-{
-    match r {
-        Ok(()) => Answer::Done,
-        Err(fault) => Answer::Refused(fault),
-    }
-}
+// The network, the values and the memory go side by side from call to call, and not as one struct of three references: a
+// turn would lend front parts of such a struct's fields as a second one, which gets no proof, and each contract would have
+// to say besides that every field still holds the same reference.
 
 // Makes one call with exactly these values and this memory; where there is no memory for its answer, nothing is done.
 fn make_call<S: Synopsis>(
@@ -34,16 +27,15 @@ fn make_call<S: Synopsis>(
     ensures after { MatchResult result (λ a. state_of S.Synopsis.kind S.Synopsis.form network.new values.new memory.new ≡ call_after S.Synopsis.kind (state_of S.Synopsis.kind S.Synopsis.form network.old values.old memory.old) (tells a) call.now) (λ _. (network.new ≡ network.old) × (memory.new ≡ memory.old)) }
     ensures still { MatchResult result (λ a. (is_accepted (tells a) ≡ false → values.new ≡ values.old)) (λ _. values.new ≡ values.old) }
 {
-    match call {
-        Call::Generate { node, reading } => Ok(plain(network.generate(
-            values, memory, *node, *reading,
-        ))),
-        Call::Arrive { node, frame } => Ok(plain(network.arrive(values, memory, *node, frame))),
-        Call::Send { node, slot } => Ok(plain(network.send(values, memory, *node, *slot))),
-        Call::Deliver { slot, node } => Ok(plain(network.deliver(values, memory, *slot, *node))),
-        Call::Drop { slot } => Ok(plain(network.drop_slot(values, memory, *slot))),
-        Call::Read { node, room } => read_into(heap, network, values, memory, *node, *room),
-    }
+    let done = match call {
+        Call::Generate { node, reading } => network.generate(values, memory, *node, *reading),
+        Call::Arrive { node, frame } => network.arrive(values, memory, *node, frame),
+        Call::Send { node, slot } => network.send(values, memory, *node, *slot),
+        Call::Deliver { slot, node } => network.deliver(values, memory, *slot, *node),
+        Call::Drop { slot } => network.drop_slot(values, memory, *slot),
+        Call::Read { node, room } => return read_into(heap, network, values, memory, *node, *room),
+    };
+    Ok(done.map(|()| None))
 }
 
 // READ into bytes of its own: no frame is longer than they are.
@@ -60,11 +52,8 @@ fn read_into<S: Synopsis>(
     let mut out = [0; FRAME];
     let part = &mut out[0..room.min(FRAME)];
     match network.read(values, memory, node, part) {
-        Ok(length) => match Vec::from_slice(heap, &part[0..length]) {
-            Ok(bytes) => Ok(Answer::Bytes(bytes)),
-            Err(fault) => Err(fault),
-        },
-        Err(fault) => Ok(Answer::Refused(fault)),
+        Ok(length) => Ok(Ok(Some(Vec::from_slice(heap, &part[0..length])?))),
+        Err(fault) => Ok(Err(fault)),
     }
 }
 
@@ -83,9 +72,11 @@ pub fn make_turn<S: Synopsis>(
 {
     let v = turn.values.min(values.len());
     let m = turn.bytes.min(memory.len());
-    let call = turn.call;
-    match make_call(heap, network, &mut values[0..v], &mut memory[0..m], &call) {
-        Ok(answer) => Ok(answer),
-        Err(fault) => Err(fault),
-    }
+    make_call(
+        heap,
+        network,
+        &mut values[0..v],
+        &mut memory[0..m],
+        &turn.call,
+    )
 }

@@ -2,14 +2,17 @@
 #![tactic(auto)]
 
 mod host;
-mod show;
 
 use host::Host;
 use readings::Reading;
 use std::io;
+use texts::shown::Pairs;
 
-// What each host sees: tenant, client and amount. Client 1 is seen by two hosts.
-fn readings(rt: &HostRuntime, alpha: &mut Host, beta: &mut Host) -> io::Result<()> {
+// How many bytes of a frame get through where it is cut on the way.
+const CUT: usize = 19;
+
+// What each host sees. Client 1 is seen by two hosts.
+fn readings(rt: &impl Print, alpha: &mut Host, beta: &mut Host) -> io::Result<()> {
     println!(rt; "1. The hosts count clients.")?;
     alpha.see(
         rt,
@@ -47,70 +50,62 @@ fn readings(rt: &HostRuntime, alpha: &mut Host, beta: &mut Host) -> io::Result<(
 
 // The first route, by way of beta; alpha's first frame stays on the wire meanwhile.
 fn first_route(
-    rt: &HostRuntime,
+    rt: &(impl Print + AllocGlobal),
     alpha: &Host,
     beta: &mut Host,
     gamma: &mut Host,
 ) -> io::Result<()> {
     println!(rt; "2. By way of beta: alpha sends to beta, and beta to gamma.")?;
     let from_alpha = alpha.send(rt)?;
-    beta.take(rt, from_alpha.bytes())?;
+    beta.take(rt, &from_alpha)?;
     let from_beta = beta.send(rt)?;
-    gamma.take(rt, from_beta.bytes())
+    gamma.take(rt, &from_beta)
 }
 
 // The second route: one frame, late and twice.
-fn second_route(rt: &HostRuntime, late: &[u8], gamma: &mut Host) -> io::Result<()> {
+fn second_route(rt: &impl Print, late: &[u8], gamma: &mut Host) -> io::Result<()> {
     println!(rt; "3. Straight from alpha: its frame of before, late, and then once more.")?;
-    print!(rt; "   it is ")?;
-    show::line(rt, late)?;
+    println!(rt; "   it is {}", Pairs(late))?;
     gamma.take(rt, late)?;
     gamma.take(rt, late)
 }
 
-// Bytes that were cut on the way.
-fn cut_frame(rt: &HostRuntime, frame: &[u8], gamma: &mut Host) -> io::Result<()> {
-    println!(rt; "5. A frame that was cut on the way.")?;
-    let before = gamma.frame();
-    let cut = if frame.len() < 19 {
-        frame
+// Two frames, each with whose it is, and whether they are equal byte by byte.
+fn compare(rt: &impl Print, one: (&str, &[u8]), other: (&str, &[u8])) -> io::Result<()> {
+    for (name, frame) in [one, other] {
+        println!(rt; "   {name}: {}", Pairs(frame))?;
+    }
+    let verdict = if one.1 == other.1 {
+        "equal byte by byte"
     } else {
-        &frame[0..19]
+        "different"
     };
-    print!(rt; "   it is ")?;
-    show::line(rt, cut)?;
-    gamma.take(rt, cut)?;
-    let after = gamma.frame();
-    show::compare(
-        rt,
-        "gamma before",
-        before.bytes(),
-        "gamma after",
-        after.bytes(),
-    )
+    println!(rt; "   They are {verdict}.")
 }
 
-fn exchange(rt: &HostRuntime) -> io::Result<()> {
-    let mut alpha = Host::new("alpha");
-    let mut beta = Host::new("beta");
-    let mut gamma = Host::new("gamma");
-    readings(rt, &mut alpha, &mut beta)?;
-    let late = alpha.frame();
-    first_route(rt, &alpha, &mut beta, &mut gamma)?;
-    second_route(rt, late.bytes(), &mut gamma)?;
-    println!(rt; "4. The links are quiet.")?;
-    show::compare(
-        rt,
-        "beta",
-        beta.frame().bytes(),
-        "gamma",
-        gamma.frame().bytes(),
-    )?;
-    cut_frame(rt, beta.frame().bytes(), &mut gamma)?;
-    println!(rt; "6. How many clients does the rack have?")?;
-    gamma.estimate(rt)
+// Bytes that were cut on the way.
+fn cut_frame(rt: &(impl Print + AllocGlobal), frame: &[u8], gamma: &mut Host) -> io::Result<()> {
+    println!(rt; "5. A frame that was cut on the way.")?;
+    let before = gamma.frame(rt.alloc())?;
+    let cut = &frame[..frame.len().min(CUT)];
+    println!(rt; "   it is {}", Pairs(cut))?;
+    gamma.take(rt, cut)?;
+    let after = gamma.frame(rt.alloc())?;
+    compare(rt, ("gamma before", &before), ("gamma after", &after))
 }
 
 fn main(rt: HostRuntime) -> io::Result<()> {
-    exchange(&rt)
+    let mut alpha = Host::new("alpha");
+    let mut beta = Host::new("beta");
+    let mut gamma = Host::new("gamma");
+    readings(&rt, &mut alpha, &mut beta)?;
+    let late = alpha.frame(rt.alloc())?;
+    first_route(&rt, &alpha, &mut beta, &mut gamma)?;
+    second_route(&rt, &late, &mut gamma)?;
+    println!(rt; "4. The links are quiet.")?;
+    let last = beta.frame(rt.alloc())?;
+    compare(&rt, ("beta", &last), ("gamma", &gamma.frame(rt.alloc())?))?;
+    cut_frame(&rt, &last, &mut gamma)?;
+    println!(rt; "6. How many clients does the rack have?")?;
+    gamma.estimate(&rt)
 }

@@ -1,7 +1,7 @@
 -- Bytes of a number read back as the number, and the other way round.
 use Rattle.std.proofs.Common.{◌≡◌, ℕ, zero, suc, ◌+◌, ◌-◌, ◌*◌, ◌/◌, ◌%◌, ◌^◌, ◌<◌, ◌≤◌, List, [], ◌∷◌, length, drop, set, sym, refl, ap, ◌∙◌, mod-eq_of_lt, mul_comm, div-lt_iff_lt-mul, pow-suc, div-add-mod', div-one, arith}
 use native.Mathlib.Nat.{div-div-eq-div-mul, pow-le-pow_right}
-use Rattle.std.proofs.lemmas.List.{drop-set, drop_all}
+use Rattle.std.proofs.lemmas.List.{drop-set}
 use Rattle.std.specs.List.{AllByRecursion}
 use Rattle.std.specs.Int.Digits.{number_from_digits_after}
 use Rattle.std.proofs.lemmas.Int.Digits.{number_lt}
@@ -66,17 +66,7 @@ pub length_in : (w n : ℕ) → length (in_bytes w n) ≡ w
 length_in zero n = refl
 length_in (suc w) n = ap suc (length_low w n)
 
--- one byte more is read, modulo 2^64
-pub push_mod : (n b : ℕ) → ((n % 2 ^ 64) * 256 % 2 ^ 64 + b) % 2 ^ 64 ≡ (n * 256 + b) % 2 ^ 64
-push_mod n b = omega arith
-
--- nothing is written yet, and then one byte more before the others
-pub put_none : (out : List ℕ) (n : ℕ) → (drop (length out) out ≡ low_bytes (length out - length out) n) × (n ≡ n / 256 ^ (length out - length out))
-put_none out n =
-    let z : length out - length out ≡ 0 = omega arith in
-    let le : length out ≤ length out = omega arith in
-    rw z (drop_all (length out) out le, sym (div-one n))
-
+-- one byte more is written before the others
 pub put_more : (out : List ℕ) (n i len rest : ℕ) → 0 < i → i ≤ len → length out ≡ len → (drop i out ≡ low_bytes (len - i) n) × (rest ≡ n / 256 ^ (len - i)) → (drop (i - 1) (set out (i - 1) (rest % 256)) ≡ low_bytes (len - (i - 1)) n) × (rest / 256 ≡ n / 256 ^ (len - (i - 1)))
 put_more out n i len rest pos le long inv =
     let s : len - (i - 1) ≡ suc (len - i) = omega arith in

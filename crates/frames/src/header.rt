@@ -4,7 +4,7 @@ ghost use Rattle.frames.specs.Headers.{header_bytes, opened};
 use synopsis::fault::{DecodeFault, Reason};
 
 // What a frame's header says beside the kind number.
-#[derive(Clone, Copy)]
+#[derive(Clone, Copy, PartialEq, Eq, Debug)]
 pub struct Header {
     pub count: u8,
     pub end: u16,
@@ -18,34 +18,20 @@ pub fn header_bytes(kind: u8, header: Header) -> [u8; 4]
     [kind, header.count, high, low]
 }
 
-// Reads the header of a frame that should be of this kind, with a count from `fewest` to `most`.
+// Reads the header of a frame that should be of this kind, with a count from `fewest` to `most`: two
+// numbers and no range, since the contract names each, and would have to take a range apart.
 pub fn read_header(frame: &[u8], kind: u8, fewest: u8, most: u8) -> Result<Header, DecodeFault>
     ensures { result ≡ opened kind fewest most frame.now }
 {
-    if frame.len() < 4 {
-        return Err(DecodeFault {
-            reason: Reason::Short,
-            place: frame.len(),
-            kind,
-        });
+    let &[number, count, high, low, ..] = frame else {
+        return Err(DecodeFault::new(Reason::Short, frame.len(), kind));
+    };
+    if number != kind {
+        return Err(DecodeFault::new(Reason::OtherKind, 0, kind));
     }
-    if frame[0] != kind {
-        return Err(DecodeFault {
-            reason: Reason::OtherKind,
-            place: 0,
-            kind,
-        });
-    }
-    let count = frame[1];
     if count < fewest || count > most {
-        return Err(DecodeFault {
-            reason: Reason::Count,
-            place: 1,
-            kind,
-        });
+        return Err(DecodeFault::new(Reason::Count, 1, kind));
     }
-    Ok(Header {
-        count,
-        end: frame[2] as u16 * 256 + frame[3] as u16,
-    })
+    let end = u16::from_be_bytes([high, low]);
+    Ok(Header { count, end })
 }

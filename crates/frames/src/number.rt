@@ -9,7 +9,7 @@ pub fn get_number(bytes: &[u8]) -> u64
 {
     let mut n: u64 = 0;
     for b in bytes {
-        n = n.wrapping_mul(256).wrapping_add(*b as u64);
+        n = n.wrapping_mul(256).wrapping_add(u64::from(*b));
     }
     n
 }
@@ -19,6 +19,7 @@ pub fn put_number(out: &mut [u8], n: u64)
     ensures { out.new ≡ low_bytes (length out.old) n }
 {
     let mut rest = n;
+    // By index: after a loop over `iter_mut().rev()` a proof knows how many bytes there are, and none of them.
     for i in (0..out.len()).rev() {
         out[i] = (rest % 256) as u8;
         rest /= 256;

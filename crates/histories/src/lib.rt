@@ -4,7 +4,7 @@
 use readings::Reading;
 
 // One call of a network, OPEN apart.
-#[derive(Clone, Copy)]
+#[derive(Clone, Copy, PartialEq, Eq, Debug)]
 pub enum Call<'a> {
     Generate { node: usize, reading: Reading },
     Arrive { node: usize, frame: &'a [u8] },
@@ -15,7 +15,7 @@ pub enum Call<'a> {
 }
 
 // A turn: a call, and how many of the values and of the bytes of memory it is brought, a front part of them.
-#[derive(Clone, Copy)]
+#[derive(Clone, Copy, PartialEq, Eq, Debug)]
 pub struct Turn<'a> {
     pub values: usize,
     pub bytes: usize,

@@ -1,24 +1,58 @@
 // Answers case lines by the proved library: a line on standard output for each on standard input.
 #![tactic(auto)]
 
-mod answer;
 mod case;
-mod fault;
-mod field;
-mod hex;
-mod kinds;
-mod outcome;
-mod subject;
-mod tally;
-mod value;
 
+use bitmaps::maps::Bitmaps;
+use bitmaps::zeros::lowest_zero;
+use cases::hashes::HashCase;
+use cases::kinds::full;
+use layers::pair::Pair;
+use least::row::LeastValues;
+use pile::{FourSamples, StandardPile};
+use sample::row::Sample;
+use std::alloc::Global;
 use std::io::{BufRead, BufReader};
+use texts::fault::Fault;
+use texts::field::{up_to, word};
+use texts::line::answered;
 
+const MOST_MAP: u64 = 0xFFFF_FFFF;
+
+// The answer to a line about a kind.
+fn of_kind(heap: Global, letter: &str, fields: &[&str]) -> Result<String, Fault> {
+    match letter {
+        "b" => case::answer::<Bitmaps>(heap, fields),
+        "v" => case::answer::<LeastValues>(heap, fields),
+        "s" => case::answer::<Sample>(heap, fields),
+        "p" => case::answer::<StandardPile>(heap, fields),
+        "t" => case::answer::<Pair<LeastValues, LeastValues>>(heap, fields),
+        "n" => case::answer::<Pair<Pair<Bitmaps, Sample>, LeastValues>>(heap, fields),
+        "o" => case::answer::<FourSamples>(heap, fields),
+        _ => Err(Fault::Form),
+    }
+}
+
+fn answer(heap: Global, line: &str) -> Result<String, Fault> {
+    let fields: Vec<&str> = line.split(' ').collect(heap)?;
+    let fields = fields.as_slice();
+    match fields {
+        ["item" | "mark" | "outputs", ..] => {
+            Ok(HashCase::read(fields)?.answer(heap)?.to_string(heap)?)
+        }
+        ["lowest", map] => Ok(lowest_zero(up_to(MOST_MAP, map)? as u32).to_string(heap)?),
+        ["v", "full", last] => Ok(full(word(last)?).estimate().to_string(heap)?),
+        [letter, rest @ ..] => of_kind(heap, letter, rest),
+        _ => Err(Fault::Form),
+    }
+}
+
+// The loop over lines stands in each such program: shared, it would ask that a closure may be called.
 fn main(rt: HostRuntime) -> anyhow::Result<()> {
     let heap = rt.alloc();
     for line in BufReader::new(heap, rt.stdin())?.lines(heap) {
         let text = line?;
-        rt.println(answer::to_line(heap, text.as_str())?)?;
+        rt.println(answered(heap, answer(heap, text.as_str()))?)?;
     }
     Ok(())
 }

@@ -1,4 +1,4 @@
-ghost use Rattle.std.specs.Prelude.{◌≡◌, ◌+◌, ◌≤◌, length, IfOk, Ok, Err, MatchResult};
+ghost use Rattle.std.specs.Prelude.{◌≡◌, ◌+◌, ◌≤◌, refl, length, IfOk, Ok, Err, MatchResult};
 ghost use Rattle.std.specs.List.{between};
 ghost use Rattle.layers.specs.Parts.{read_part};
 ghost use Rattle.layers.specs.Pairs.{pair_kind, pair_head, second_offset};
@@ -18,7 +18,7 @@ const LONGEST: usize = 2048;
 const FIRST: usize = 6;
 
 // Two synopses, side by side.
-#[derive(Drop)]
+#[derive(Clone, PartialEq, Eq, Drop)]
 pub struct Pair<A, B> {
     pub first: A,
     pub second: B,
@@ -31,26 +31,15 @@ fn second_offset(frame: &[u8]) -> Result<usize, DecodeFault>
 {
     let header = read_header(frame, NUMBER, 2, 2)?;
     if header.end as usize != frame.len() {
-        return Err(DecodeFault {
-            reason: Reason::End,
-            place: 2,
-            kind: NUMBER,
-        });
+        return Err(DecodeFault::new(Reason::End, 2, NUMBER));
     }
-    if frame.len() < FIRST {
-        return Err(DecodeFault {
-            reason: Reason::Offset,
-            place: 4,
-            kind: NUMBER,
-        });
-    }
-    let offset = frame[4] as usize * 256 + frame[5] as usize;
+    let misplaced = DecodeFault::new(Reason::Offset, 4, NUMBER);
+    let &[_, _, _, _, high, low, ..] = frame else {
+        return Err(misplaced);
+    };
+    let offset = u16::from_be_bytes([high, low]) as usize;
     if offset < FIRST + 4 || offset > frame.len() - 4 {
-        return Err(DecodeFault {
-            reason: Reason::Offset,
-            place: 4,
-            kind: NUMBER,
-        });
+        return Err(misplaced);
     }
     Ok(offset)
 }
@@ -61,14 +50,11 @@ fn decode_part<S: Synopsis>(frame: &[u8], from: usize, to: usize) -> Result<S, D
     ensures { MatchResult result (λ s. (read_part S.Synopsis.kind from to frame.now ≡ Ok (S.Synopsis.form s)) × (S.Synopsis.kind.encoding (S.Synopsis.form s) ≡ between from to frame.now)) (λ e. read_part S.Synopsis.kind from to frame.now ≡ Err e) }
 {
     let mut part = S::empty();
-    match part.decode(&frame[from..to]) {
-        Ok(()) => Ok(part),
-        Err(fault) => Err(DecodeFault {
-            reason: fault.reason,
-            place: from + fault.place,
-            kind: fault.kind,
-        }),
-    }
+    part.decode(&frame[from..to]).map_err(|fault| DecodeFault {
+        place: from + fault.place,
+        ..fault
+    })?;
+    Ok(part)
 }
 
 // What stands before the first side: the header, and the offset of the second side.
@@ -83,15 +69,15 @@ fn head_bytes(offset: u16, end: u16) -> [u8; 6]
 impl<A: Synopsis, B: Synopsis> Synopsis for Pair<A, B> {
     const NUMBER: u8 = NUMBER;
 
+    ghost NUMBER = { 5 };
+
     ghost kind = { pair_kind A.Synopsis.kind B.Synopsis.kind };
 
     ghost form = { λ p. (A.Synopsis.form p.first, B.Synopsis.form p.second) };
 
-    ghost lawful = { pair_laws A.Synopsis.kind B.Synopsis.kind A.Synopsis.lawful B.Synopsis.lawful };
+    ghost numbered = { refl };
 
-    fn kind_number() -> u8 {
-        NUMBER
-    }
+    ghost lawful = { pair_laws A.Synopsis.kind B.Synopsis.kind A.Synopsis.lawful B.Synopsis.lawful };
 
     fn greatest_length() -> usize {
         (FIRST + A::greatest_length() + B::greatest_length()).min(LONGEST + 1)
@@ -117,14 +103,14 @@ impl<A: Synopsis, B: Synopsis> Synopsis for Pair<A, B> {
     }
 
     fn length(&self) -> usize {
-        if Self::greatest_length() > LONGEST {
+        if Self::is_overlong() {
             return LONGEST + 1;
         }
         FIRST + self.first.length() + self.second.length()
     }
 
     fn encode(&self, out: &mut [u8]) -> Result<usize, EncodeFault> {
-        if Self::greatest_length() > LONGEST {
+        if Self::is_overlong() {
             return Err(EncodeFault::Overlong);
         }
         let offset = FIRST + self.first.length();
@@ -139,12 +125,8 @@ impl<A: Synopsis, B: Synopsis> Synopsis for Pair<A, B> {
     }
 
     fn decode(&mut self, frame: &[u8]) -> Result<(), DecodeFault> {
-        if Self::greatest_length() > LONGEST {
-            return Err(DecodeFault {
-                reason: Reason::Overlong,
-                place: 0,
-                kind: NUMBER,
-            });
+        if Self::is_overlong() {
+            return Err(DecodeFault::new(Reason::Overlong, 0, NUMBER));
         }
         let offset = second_offset(frame)?;
         let first = decode_part(frame, FIRST, offset)?;

@@ -13,7 +13,7 @@ least_kind = run_kind 2 64 number_layout by_size hash_of
 
 -- the values that a row counts
 abbrev pub counted : LeastValues → List ℕ
-counted row = take row.count row.values
+counted row = take row.row.count row.row.places
 
 -- an unused place holds zero
 abbrev pub unused : ℕ → Bool
@@ -21,11 +21,11 @@ unused x = x == 0
 
 -- the check of a plain row: each of its values is less than the next, and zeros stand behind them
 abbrev pub row_kept : LeastValues → Bool
-row_kept row = is_run_row by_size unused row.count row.values
+row_kept row = is_run_row by_size unused row.row.count row.row.places
 
 -- what a plain row stands for: the run of its values, or the empty one where it fails the check
 abbrev pub least_form : LeastValues → Run by_size 64
-least_form row = as_run by_size 64 (row_items by_size unused row.count row.values)
+least_form row = as_run by_size 64 (row_items by_size unused row.row.count row.row.places)
 
 -- how many different readings a run tells of: its length, and where it is full 63 * 2^32 over the upper half of its
 -- last value and one

@@ -3,4 +3,3 @@
 
 pub mod kind;
 pub mod row;
-pub mod run;

@@ -1,11 +1,10 @@
 -- What each call of a network answers, and what it leaves.
-use Rattle.std.specs.Prelude.{◌≡◌, ℕ, ◌+◌, ◌*◌, min, Bool, true, false, cond, ◌||◌, List, [], ◌++◌, map, length, take, drop, replicate, Ok, Err, Result, ◌≢◌, nat_le, nat_lt, slice_index_or, slice_set}
+use Rattle.std.specs.Prelude.{◌≡◌, ℕ, ◌+◌, ◌*◌, min, Bool, true, false, cond, ◌||◌, List, [], ◌++◌, map, length, take, drop, replicate, None, Some, Option, Ok, Err, Result, ◌≢◌, nat_le, nat_lt, slice_index_or, slice_set}
 use Rattle.synopsis.specs.declared.fault.DecodeFault.{DecodeFault}
 use Rattle.synopsis.specs.Kind.{Kind, overlong}
 use Rattle.network.specs.declared.fault.NetworkFault.{NetworkFault}
 use Rattle.network.specs.declared.fault.NetworkFault.TheVariants.{NodeCount, Brought, Overlong, NoNode, NoSlot, SlotFree, SlotFilled, Room, Synopsis}
-use Rattle.network.specs.declared.slot.Slot.{Slot}
-use Rattle.network.specs.declared.slot.Slot.TheVariants.{Free, Filled}
+use Rattle.network.specs.declared.slot.Filled.{Filled}
 use Rattle.network.specs.declared.table.Network.{Network}
 
 -- the bytes of a slot, and of all 32
@@ -23,18 +22,29 @@ unless refused fault rest = cond refused (Err fault) rest
 abbrev pub slot_start : ℕ → ℕ
 slot_start s = slot_bytes * s
 
-abbrev pub is_filled : Slot → Bool
-is_filled Free = false
-is_filled (Filled sender length) = true
+-- what lies in a slot: who sent it, and how long it is
+abbrev pub slot_of : ℕ → ℕ → Option Filled
+slot_of sender length = Some (record { sender = sender; length = length })
+
+abbrev pub is_filled : Option Filled → Bool
+is_filled None = false
+is_filled (Some frame) = true
 
 -- the bytes that a slot holds
-abbrev pub slot_frame : List ℕ → ℕ → Slot → List ℕ
-slot_frame memory s Free = []
-slot_frame memory s (Filled sender length) = take (min length slot_bytes) (drop (slot_start s) memory)
+abbrev pub slot_frame : List ℕ → ℕ → Option Filled → List ℕ
+slot_frame memory s None = []
+slot_frame memory s (Some frame) = take (min frame.length slot_bytes) (drop (slot_start s) memory)
 
 -- the slot that is read past the table's end
-abbrev pub no_slot : Slot
-no_slot = Free
+abbrev pub no_slot : Option Filled
+no_slot = None
+
+-- the form of one of the values, and its encoding
+abbrev pub value_form : {S : Type 0} (k : Kind) → (S → k.Form) → List S → ℕ → k.Form
+value_form k form values node = slice_index_or (map form values) node k.none
+
+abbrev pub value_frame : {S : Type 0} (k : Kind) → (S → k.Form) → List S → ℕ → List ℕ
+value_frame k form values node = k.encoding (value_form k form values node)
 
 module _ (k : Kind) where
   -- what a form is joined with, by what bytes are read as
@@ -85,10 +95,10 @@ placed memory at frame = take at memory ++ (frame ++ drop (at + length frame) me
 
 -- a network that was just opened
 abbrev pub opened_network : ℕ → Network
-opened_network nodes = record { count = nodes; slots = replicate 32 Free }
+opened_network nodes = record { count = nodes; slots = replicate 32 None }
 
 -- with one entry of its table switched
-abbrev pub switched : Network → ℕ → Slot → Network
+abbrev pub switched : Network → ℕ → Option Filled → Network
 switched net s entry = record { count = net.count; slots = slice_set net.slots s entry }
 
 -- one node's value has this form now, the others are as they were
@@ -102,7 +112,7 @@ pub record Joined {S : Type 0} (k : Kind) (form : S → k.Form) (before after : 
   pub told : k.Form
   pub decodes : k.decoding bytes ≡ Ok told
   pub encodes : k.encoding told ≡ bytes
-  pub fused : Fused form before after node (k.join (slice_index_or (map form before) node k.none) told)
+  pub fused : Fused form before after node (k.join (value_form k form before node) told)
 
 -- the first values are empty now, the others are as they were
 pub record Emptied {S F : Type 0} (form : S → F) (none : F) (before after : List S) (nodes : ℕ) : Type 0 where

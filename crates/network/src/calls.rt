@@ -1,10 +1,9 @@
-ghost use Rattle.std.specs.Prelude.{◌≡◌, ◌<◌, ◌≤◌, true, false, ◌++◌, map, length, drop, Ok, Err, MatchResult, slice_index_or};
-ghost use Rattle.network.specs.declared.slot.Slot.TheVariants.{Free, Filled};
-ghost use Rattle.network.specs.Calls.{opened_network, switched, placed, slot_start, slot_frame, no_slot, ready, generate_answer, arrive_answer, send_answer, deliver_answer, drop_answer, read_answer, open_answer, Fused, Joined, Emptied};
+ghost use Rattle.std.specs.Prelude.{◌≡◌, ◌<◌, ◌≤◌, false, ◌++◌, length, drop, None, Ok, MatchResult, slice_index_or};
+ghost use Rattle.network.specs.Calls.{opened_network, slot_of, switched, value_form, value_frame, placed, slot_start, slot_frame, no_slot, ready, generate_answer, arrive_answer, send_answer, deliver_answer, drop_answer, read_answer, open_answer, Fused, Joined, Emptied};
 ghost use Rattle.synopsis.specs.Kind.{overlong};
 
 use crate::fault::NetworkFault;
-use crate::slot::Slot;
+use crate::slot::Filled;
 use crate::table::Network;
 use readings::Reading;
 use synopsis::kind::Synopsis;
@@ -17,7 +16,7 @@ const MEMORY: usize = 65536;
 // Fuses another value into one of the values.
 fn fuse_at<S: Synopsis>(values: &mut [S], node: usize, other: &S)
     requires { node < length values.old }
-    ensures { Fused S.Synopsis.form values.old values.new node (S.Synopsis.kind.join (slice_index_or (map S.Synopsis.form values.old) node S.Synopsis.kind.none) (S.Synopsis.form other.now)) }
+    ensures { Fused S.Synopsis.form values.old values.new node (S.Synopsis.kind.join (value_form S.Synopsis.kind S.Synopsis.form values.old node) (S.Synopsis.form other.now)) }
 {
     values[node].fuse(other);
 }
@@ -27,8 +26,8 @@ fn empty_front<S: Synopsis>(values: &mut [S], nodes: usize)
     requires { nodes ≤ length values.old }
     ensures { Emptied S.Synopsis.form S.Synopsis.kind.none values.old values.new nodes }
 {
-    for i in 0..nodes {
-        values[i] = S::empty();
+    for value in &mut values[..nodes] {
+        *value = S::empty();
     }
 }
 
@@ -38,29 +37,28 @@ fn encode_at<S: Synopsis>(values: &[S], node: usize, memory: &mut [u8], slot: us
     requires slot_within { slot < 32 }
     requires room { 65536 ≤ length memory.old }
     requires short { overlong S.Synopsis.kind ≡ false }
-    ensures answer { result ≡ length (S.Synopsis.kind.encoding (slice_index_or (map S.Synopsis.form values.now) node S.Synopsis.kind.none)) }
-    ensures bytes { memory.new ≡ placed memory.old (slot_start slot) (S.Synopsis.kind.encoding (slice_index_or (map S.Synopsis.form values.now) node S.Synopsis.kind.none)) }
+    ensures answer { result ≡ length (value_frame S.Synopsis.kind S.Synopsis.form values.now node) }
+    ensures bytes { memory.new ≡ placed memory.old (slot_start slot) (value_frame S.Synopsis.kind S.Synopsis.form values.now node) }
 {
     let at = SLOT * slot;
-    match values[node].encode(&mut memory[at..at + SLOT]) {
-        Ok(length) => length,
-        Err(_) => 0,
-    }
+    values[node].encode(&mut memory[at..at + SLOT]).unwrap()
 }
 
 // A lent entry of the table is switched to filled, and to free.
-fn fill(entry: &mut Slot, sender: usize, length: usize)
-    ensures { entry.new ≡ Filled sender length }
+fn fill(entry: &mut Option<Filled>, sender: usize, length: usize)
+    ensures { entry.new ≡ slot_of sender length }
 {
-    *entry = Slot::Filled { sender, length };
+    *entry = Some(Filled { sender, length });
 }
 
-fn release(entry: &mut Slot)
-    ensures { entry.new ≡ Free }
+fn release(entry: &mut Option<Filled>)
+    ensures { entry.new ≡ None }
 {
-    *entry = Slot::Free;
+    *entry = None;
 }
 
+// The calls take the values and the memory one by one, since each says by `&` or `&mut` which of the two it leaves
+// alone; a struct of both would lose that.
 impl Network {
     // A network with no nodes: it serves only OPEN.
     pub fn new() -> Network
@@ -68,7 +66,7 @@ impl Network {
     {
         Network {
             count: 0,
-            slots: [Slot::Free; 32],
+            slots: [None; 32],
         }
     }
 
@@ -94,12 +92,9 @@ impl Network {
         reading: Reading,
     ) -> Result<(), NetworkFault>
         ensures answer { result ≡ generate_answer S.Synopsis.kind self.now (length values.old) (length memory.now) node }
-        ensures after { MatchResult result (λ _. Fused S.Synopsis.form values.old values.new node (S.Synopsis.kind.join (slice_index_or (map S.Synopsis.form values.old) node S.Synopsis.kind.none) (S.Synopsis.kind.single reading))) (λ _. values.new ≡ values.old) }
+        ensures after { MatchResult result (λ _. Fused S.Synopsis.form values.old values.new node (S.Synopsis.kind.join (value_form S.Synopsis.kind S.Synopsis.form values.old node) (S.Synopsis.kind.single reading))) (λ _. values.new ≡ values.old) }
     {
-        match self.is_ready(values, memory) {
-            Ok(()) => {}
-            Err(fault) => return Err(fault),
-        }
+        self.is_ready(values, memory)?;
         if node >= self.count {
             return Err(NetworkFault::NoNode);
         }
@@ -118,10 +113,7 @@ impl Network {
         ensures answer { result ≡ arrive_answer S.Synopsis.kind self.now (length values.old) (length memory.now) node frame.now }
         ensures after { MatchResult result (λ _. Joined S.Synopsis.kind S.Synopsis.form values.old values.new node frame.now) (λ _. values.new ≡ values.old) }
     {
-        match self.is_ready(values, memory) {
-            Ok(()) => {}
-            Err(fault) => return Err(fault),
-        }
+        self.is_ready(values, memory)?;
         if node >= self.count {
             return Err(NetworkFault::NoNode);
         }
@@ -140,20 +132,17 @@ impl Network {
         slot: usize,
     ) -> Result<(), NetworkFault>
         ensures answer { result ≡ send_answer S.Synopsis.kind self.old (length values.now) (length memory.old) node slot }
-        ensures table { MatchResult result (λ _. self.new ≡ switched self.old slot (Filled node (length (S.Synopsis.kind.encoding (slice_index_or (map S.Synopsis.form values.now) node S.Synopsis.kind.none))))) (λ _. self.new ≡ self.old) }
-        ensures bytes { MatchResult result (λ _. memory.new ≡ placed memory.old (slot_start slot) (S.Synopsis.kind.encoding (slice_index_or (map S.Synopsis.form values.now) node S.Synopsis.kind.none))) (λ _. memory.new ≡ memory.old) }
+        ensures table { MatchResult result (λ _. self.new ≡ switched self.old slot (slot_of node (length (value_frame S.Synopsis.kind S.Synopsis.form values.now node)))) (λ _. self.new ≡ self.old) }
+        ensures bytes { MatchResult result (λ _. memory.new ≡ placed memory.old (slot_start slot) (value_frame S.Synopsis.kind S.Synopsis.form values.now node)) (λ _. memory.new ≡ memory.old) }
     {
-        match self.is_ready(values, memory) {
-            Ok(()) => {}
-            Err(fault) => return Err(fault),
-        }
+        self.is_ready(values, memory)?;
         if node >= self.count {
             return Err(NetworkFault::NoNode);
         }
         if slot >= 32 {
             return Err(NetworkFault::NoSlot);
         }
-        if let Slot::Filled { .. } = self.slots[slot] {
+        if self.slots[slot].is_some() {
             return Err(NetworkFault::SlotFilled);
         }
         let length = encode_at(values, node, memory, slot);
@@ -172,19 +161,14 @@ impl Network {
         ensures answer { result ≡ deliver_answer S.Synopsis.kind self.now (length values.old) (length memory.now) memory.now slot node }
         ensures after { MatchResult result (λ _. Joined S.Synopsis.kind S.Synopsis.form values.old values.new node (slot_frame memory.now slot (slice_index_or self.now.slots slot no_slot))) (λ _. values.new ≡ values.old) }
     {
-        match self.is_ready(values, memory) {
-            Ok(()) => {}
-            Err(fault) => return Err(fault),
-        }
+        self.is_ready(values, memory)?;
         if slot >= 32 {
             return Err(NetworkFault::NoSlot);
         }
         if node >= self.count {
             return Err(NetworkFault::NoNode);
         }
-        let Slot::Filled { length, .. } = self.slots[slot] else {
-            return Err(NetworkFault::SlotFree);
-        };
+        let Filled { length, .. } = self.slots[slot].ok_or(NetworkFault::SlotFree)?;
         let at = SLOT * slot;
         let mut heard = S::empty();
         heard.decode(&memory[at..at + length.min(SLOT)])?;
@@ -200,16 +184,13 @@ impl Network {
         slot: usize,
     ) -> Result<(), NetworkFault>
         ensures answer { result ≡ drop_answer S.Synopsis.kind self.old (length values.now) (length memory.now) slot }
-        ensures table { MatchResult result (λ _. self.new ≡ switched self.old slot Free) (λ _. self.new ≡ self.old) }
+        ensures table { MatchResult result (λ _. self.new ≡ switched self.old slot None) (λ _. self.new ≡ self.old) }
     {
-        match self.is_ready(values, memory) {
-            Ok(()) => {}
-            Err(fault) => return Err(fault),
-        }
+        self.is_ready(values, memory)?;
         if slot >= 32 {
             return Err(NetworkFault::NoSlot);
         }
-        if let Slot::Free = self.slots[slot] {
+        if self.slots[slot].is_none() {
             return Err(NetworkFault::SlotFree);
         }
         release(&mut self.slots[slot]);
@@ -224,20 +205,14 @@ impl Network {
         node: usize,
         out: &mut [u8],
     ) -> Result<usize, NetworkFault>
-        ensures answer { result ≡ read_answer S.Synopsis.kind self.now (length values.now) (length memory.now) node (slice_index_or (map S.Synopsis.form values.now) node S.Synopsis.kind.none) (length out.old) }
-        ensures after { MatchResult result (λ n. out.new ≡ S.Synopsis.kind.encoding (slice_index_or (map S.Synopsis.form values.now) node S.Synopsis.kind.none) ++ drop n out.old) (λ _. out.new ≡ out.old) }
+        ensures answer { result ≡ read_answer S.Synopsis.kind self.now (length values.now) (length memory.now) node (value_form S.Synopsis.kind S.Synopsis.form values.now node) (length out.old) }
+        ensures after { MatchResult result (λ n. out.new ≡ value_frame S.Synopsis.kind S.Synopsis.form values.now node ++ drop n out.old) (λ _. out.new ≡ out.old) }
     {
-        match self.is_ready(values, memory) {
-            Ok(()) => {}
-            Err(fault) => return Err(fault),
-        }
+        self.is_ready(values, memory)?;
         if node >= self.count {
             return Err(NetworkFault::NoNode);
         }
-        match values[node].encode(out) {
-            Ok(length) => Ok(length),
-            Err(_) => Err(NetworkFault::Room),
-        }
+        values[node].encode(out).map_err(|_| NetworkFault::Room)
     }
 
     // OPEN: so many nodes, all empty, and all slots free.
@@ -263,7 +238,7 @@ impl Network {
         empty_front(values, nodes);
         *self = Network {
             count: nodes,
-            slots: [Slot::Free; 32],
+            slots: [None; 32],
         };
         Ok(())
     }

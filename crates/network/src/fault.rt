@@ -1,10 +1,12 @@
-ghost use Rattle.std.specs.Prelude.{◌≡◌};
-ghost use Rattle.network.specs.Faults.{fault_number, of_synopsis};
+ghost use Rattle.std.specs.Prelude.{◌≡◌, Some};
+ghost use Rattle.network.specs.Faults.{fault_number, fault_text, of_synopsis};
 
+use std::error::Error;
+use std::fmt;
 use synopsis::fault::DecodeFault;
 
 // Why a network refuses a call.
-#[derive(Clone, Copy)]
+#[derive(Clone, Copy, PartialEq, Eq, Debug)]
 pub enum NetworkFault {
     // a node count outside 1 to 16
     NodeCount,
@@ -27,6 +29,7 @@ pub enum NetworkFault {
 }
 
 impl NetworkFault {
+    // A match and no discriminants, since a synopsis's fault comes with its own number.
     pub fn number(self) -> u8
         ensures { result ≡ fault_number self }
     {
@@ -43,6 +46,22 @@ impl NetworkFault {
         }
     }
 }
+
+impl fmt::Display for NetworkFault {
+    ghost output = { λ e. Some (fault_text e) };
+
+    fn fmt<W: fmt::Write>(&self, f: &mut fmt::Formatter<W>) -> fmt::Result {
+        let number = self.number();
+        match self {
+            NetworkFault::Synopsis(DecodeFault { place, kind, .. }) => {
+                write!(f, "refused with {number}, at byte {place}, in kind {kind}")
+            }
+            _ => write!(f, "refused with {number}"),
+        }
+    }
+}
+
+impl Error for NetworkFault {}
 
 impl From<DecodeFault> for NetworkFault {
     ghost from_gives = { λ e r. r ≡ of_synopsis e };

@@ -1,6 +1,7 @@
-// One of the places where a sent frame lies until it is dropped.
-#[derive(Clone, Copy)]
-pub enum Slot {
-    Free,
-    Filled { sender: usize, length: usize },
+// What lies in a filled slot: which node sent it, and how many bytes it has. The bytes are not beside their length but in
+// the caller's memory, since a network has none of its own.
+#[derive(Clone, Copy, PartialEq, Eq, Debug)]
+pub struct Filled {
+    pub sender: usize,
+    pub length: usize,
 }

@@ -1,9 +1,9 @@
-use crate::slot::Slot;
+use crate::slot::Filled;
 
-// What a network knows of itself: how many nodes it has, none until it is opened, and what each slot holds. Values and
-// memory are the caller's.
-#[derive(Clone, Copy)]
+// What a network knows of itself: how many nodes it has, none until it is opened, and what lies in each slot that is
+// filled. Values and memory are the caller's.
+#[derive(Clone, Copy, PartialEq, Eq, Debug)]
 pub struct Network {
     pub count: usize,
-    pub slots: [Slot; 32],
+    pub slots: [Option<Filled>; 32],
 }

@@ -1,7 +1,8 @@
 -- The layouts of numbers read back what they wrote.
-use Rattle.std.proofs.Common.{◌≡◌, ℕ, suc, ◌%◌, ◌^◌, ◌<◌, List, length, sym, ap, ◌∙◌, arith}
+use Rattle.std.proofs.Common.{◌≡◌, ℕ, suc, ◌%◌, ◌^◌, ◌<◌, Bool, true, false, eqb, List, [], length, refl, sym, ap, ◌∙◌, arith}
 use Rattle.std.specs.List.{AllByRecursion}
-use Rattle.std.proofs.lemmas.Bool.{cond-true, eq-eqb}
+use Rattle.std.proofs.Math.Nat.{zero-mod}
+use Rattle.std.proofs.lemmas.Bool.{cond-true, cond-false, eq-eqb, eqb-true, eqb-false}
 use Rattle.frames.specs.Numbers.{in_bytes, from_bytes}
 use Rattle.frames.proofs.Numbers.{from_in_bytes, in_from_bytes, from_small, length_in}
 use Rattle.records.specs.Records.{Layout, Readable, put_over, of_width, numbers, number_layout}
@@ -25,3 +26,18 @@ pub number_got : (w : ℕ) (bytes : List ℕ) (x : ℕ) → AllByRecursion (λ b
 number_got w bytes x small long e =
     let value : x ≡ from_bytes bytes = e ∙ from_small w bytes small (omega arith) in
     (value ∙ ap from_bytes (sym (whole_width (numbers w) bytes long)), ap (in_bytes w) value ∙ ap (λ (n : ℕ). in_bytes n (from_bytes bytes)) (sym long) ∙ in_from_bytes bytes small)
+
+-- a number that is read from bytes of its width, or zero for others, is the one that they write
+pub got_sized : (w : ℕ) (bytes : List ℕ) (x : ℕ) → (length bytes ≡ w → AllByRecursion (λ b. b < 256) bytes) → x ≡ from_bytes (of_width (numbers w) bytes) % 256 ^ w → (length bytes ≡ w → (x ≡ from_bytes bytes) × (in_bytes w x ≡ bytes)) × (x ≡ from_bytes (of_width (numbers w) bytes))
+got_sized w bytes x small e = by (eqb (length bytes) w) refl
+  where
+    by : (b : Bool) → eqb (length bytes) w ≡ b → (length bytes ≡ w → (x ≡ from_bytes bytes) × (in_bytes w x ≡ bytes)) × (x ≡ from_bytes (of_width (numbers w) bytes))
+    by true q =
+        let long : length bytes ≡ w = eqb-true (length bytes) w q in
+        let whole = whole_width (numbers w) bytes long in
+        let got = number_got w bytes x (small long) long (e ∙ ap (λ (b : List ℕ). from_bytes b % 256 ^ w) whole) in
+        (λ l. (got.0 ∙ ap from_bytes whole, got.1), got.0)
+    by false q =
+        let none : of_width (numbers w) bytes ≡ [] = cond-false (eqb (length bytes) w) bytes [] q in
+        let zero : x ≡ 0 = e ∙ ap (λ (b : List ℕ). from_bytes b % 256 ^ w) none ∙ zero-mod (256 ^ w) in
+        (λ l. absurd (eqb-false (length bytes) w q l), zero ∙ sym (ap from_bytes none))

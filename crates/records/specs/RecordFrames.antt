@@ -1,5 +1,5 @@
 -- Frames of records: a header with their number, and the records one behind the other.
-use Rattle.std.specs.Prelude.{◌≡◌, ℕ, ◌+◌, ◌*◌, ◌≤◌, cond, ◌&&◌, List, ◌++◌, length, take, drop, Ok, Err, Result, ◌==◌}
+use Rattle.std.specs.Prelude.{◌≡◌, ℕ, ◌+◌, ◌*◌, ◌<◌, ◌≤◌, cond, ◌&&◌, List, ◌++◌, length, take, drop, Ok, Err, Result, ◌==◌}
 use Rattle.std.specs.List.{flat_map}
 use Rattle.synopsis.specs.declared.fault.Reason.TheVariants as reason
 use Rattle.synopsis.specs.declared.fault.DecodeFault.{DecodeFault}
@@ -11,6 +11,10 @@ use Rattle.records.specs.Records.{Layout, cut}
 -- the length of a frame with n records
 abbrev pub end_of : {E : Type 0} → Layout E → ℕ → ℕ
 end_of l n = 4 + n * l.width
+
+-- so many records fit into a frame: their number into its byte, and the end into its two
+abbrev pub FitsFrame : {E : Type 0} → Layout E → ℕ → Type 0
+FitsFrame l n = (n < 256) × (end_of l n < 65536)
 
 -- the frame of a kind with these records
 abbrev pub frame_of : {E : Type 0} → ℕ → Layout E → List E → List ℕ

@@ -1,7 +1,7 @@
-ghost use Rattle.std.specs.Prelude.{◌≡◌, ◌<◌, ◌≤◌, T, length, take, drop, Ok, Err, MatchResult};
+ghost use Rattle.std.specs.Prelude.{◌≡◌, ◌≤◌, T, length, take, drop, Ok, Err, MatchResult};
 ghost use Rattle.runs.specs.Runs.{rising, as_run};
 ghost use Rattle.synopsis.specs.Kind.{fitted, over};
-ghost use Rattle.records.specs.RecordFrames.{end_of, frame_of, read_records, placed_over, Placed};
+ghost use Rattle.records.specs.RecordFrames.{FitsFrame, frame_of, read_records, placed_over, Placed};
 ghost use Rattle.records.specs.RunKind.{read_frame};
 
 use crate::record::{Record, get_all, put_all};
@@ -9,9 +9,10 @@ use frames::header::{Header, header_bytes, read_header};
 use runs::run::fall;
 use synopsis::fault::{DecodeFault, EncodeFault, Reason};
 
-// Writes the frame of a kind with these records at the front of `out`, and answers its length.
+// Writes the frame of a kind with these records at the front of `out`, and answers its length. That they fit is asked for,
+// also below: a trait with that fact would ask more of those who call.
 pub fn encode_run<E: Record>(kind: u8, items: &[E], out: &mut [u8]) -> Result<usize, EncodeFault>
-    requires { (length items.now < 256) × (end_of E.Record.layout (length items.now) < 65536) }
+    requires { FitsFrame E.Record.layout (length items.now) }
     ensures answer { result ≡ fitted (frame_of kind E.Record.layout items.now) (length out.old) }
     ensures after { out.new ≡ over (frame_of kind E.Record.layout items.now) out.old }
 {
@@ -39,22 +40,15 @@ pub fn decode_records<E: Record>(
     frame: &[u8],
     out: &mut [E],
 ) -> Result<usize, DecodeFault>
-    requires { (length out.old < 256) × (end_of E.Record.layout (length out.old) < 65536) }
+    requires { FitsFrame E.Record.layout (length out.old) }
     ensures { MatchResult result (Placed kind fewest (length out.old) E.Record.layout frame.now out.old out.new) (λ e. (read_records kind fewest (length out.old) E.Record.layout frame.now ≡ Err e) × (out.new ≡ out.old)) }
 {
     let width = E::width();
-    let header = match read_header(frame, kind, fewest, out.len() as u8) {
-        Ok(header) => header,
-        Err(fault) => return Err(fault),
-    };
+    let header = read_header(frame, kind, fewest, out.len() as u8)?;
     let count = header.count as usize;
     let end = header.end as usize;
     if end != frame.len() || end != 4 + count * width {
-        return Err(DecodeFault {
-            reason: Reason::End,
-            place: 2,
-            kind,
-        });
+        return Err(DecodeFault::new(Reason::End, 2, kind));
     }
     get_all(&frame[4..end], &mut out[0..count]);
     Ok(count)
@@ -63,21 +57,14 @@ pub fn decode_records<E: Record>(
 // Reads a frame of a kind whose records rise, and otherwise as `decode_records` does; a record that is not greater than
 // its predecessor is refused after it was read.
 pub fn decode_run<E: Record>(kind: u8, frame: &[u8], out: &mut [E]) -> Result<usize, DecodeFault>
-    requires { (length out.old < 256) × (end_of E.Record.layout (length out.old) < 65536) }
-    ensures answer { MatchResult result (λ n. (n ≤ length out.old) × (read_frame kind (length out.old) E.Record.layout E.Element.order frame.now ≡ Ok (as_run E.Element.order (length out.old) (take n out.new))) × T (rising E.Element.order (take n out.new)) × (frame_of kind E.Record.layout (take n out.new) ≡ frame.now) × (drop n out.new ≡ drop n out.old)) (λ e. read_frame kind (length out.old) E.Record.layout E.Element.order frame.now ≡ Err e) }
+    requires { FitsFrame E.Record.layout (length out.old) }
+    ensures answer { MatchResult result (λ n. (n ≤ length out.old) × (read_frame kind (length out.old) E.Record.layout E.Ord.cmp frame.now ≡ Ok (as_run E.Ord.cmp (length out.old) (take n out.new))) × T (rising E.Ord.cmp (take n out.new)) × (frame_of kind E.Record.layout (take n out.new) ≡ frame.now) × (drop n out.new ≡ drop n out.old)) (λ e. read_frame kind (length out.old) E.Record.layout E.Ord.cmp frame.now ≡ Err e) }
     ensures after { out.new ≡ placed_over (read_records kind 0 (length out.old) E.Record.layout frame.now) out.old }
 {
     let width = E::width();
-    let count = match decode_records(kind, 0, frame, out) {
-        Ok(count) => count,
-        Err(fault) => return Err(fault),
-    };
+    let count = decode_records(kind, 0, frame, out)?;
     match fall(&out[0..count]) {
-        Some(i) => Err(DecodeFault {
-            reason: Reason::Order,
-            place: 4 + i * width,
-            kind,
-        }),
+        Some(i) => Err(DecodeFault::new(Reason::Order, 4 + i * width, kind)),
         None => Ok(count),
     }
 }

@@ -1,5 +1,6 @@
-ghost use Rattle.std.specs.Prelude.{◌≡◌, ◌*◌, length};
-ghost use Rattle.std.specs.List.{flat_map};
+ghost use Rattle.std.specs.Prelude.{◌≡◌, ◌*◌, ◌%◌, ◌^◌, ◌<◌, ◌==◌, cond, length};
+ghost use Rattle.std.specs.List.{AllByRecursion, flat_map};
+ghost use Rattle.frames.specs.Numbers.{low_bytes, from_bytes};
 ghost use Rattle.records.specs.Records.{Layout, Readable, put_over, of_width, number_layout, numbers, cut};
 ghost use Rattle.std.proofs.Common.{rules};
 
@@ -26,7 +27,8 @@ pub trait Record: Element {
     ghost readable: { Readable layout };
 }
 
-// Writes records one behind the other over `out`, which they fill.
+// Writes records one behind the other over `out`, which they fill. By the place of each record's bytes, also below: after a
+// loop over `chunks_exact_mut` a proof knows nothing of what was written, and a width may be zero.
 pub(crate) fn put_all<E: Record>(items: &[E], out: &mut [u8])
     requires { length out.old ≡ length items.now * E.Record.layout.width }
     ensures { out.new ≡ flat_map E.Record.layout.written items.now }
@@ -47,13 +49,34 @@ pub(crate) fn get_all<E: Record>(bytes: &[u8], out: &mut [E])
 {
     let width = E::width();
     let mut at = 0;
-    for i in 0..out.len() {
-        out[i] = E::get(&bytes[at..at + width]);
+    for place in out.iter_mut() {
+        *place = E::get(&bytes[at..at + width]);
         at += width;
     }
 }
 
-// Numbers of 64 bits, as hash values are: eight bytes, highest first.
+// Writes a number over `out`, if that has so many bytes.
+fn put_sized(out: &mut [u8], width: usize, n: u64)
+    ensures { out.new ≡ cond (length out.old == width) (low_bytes width n) out.old }
+{
+    if out.len() == width {
+        put_number(out, n);
+    }
+}
+
+// The number that so many bytes write, modulo 2^64; of other bytes, zero.
+fn get_sized(bytes: &[u8], width: usize) -> u64
+    ensures value { result ≡ from_bytes (of_width (numbers width) bytes.now) % 2 ^ 64 }
+    ensures small { length bytes.now ≡ width → AllByRecursion (λ b. b < 256) bytes.now }
+{
+    if bytes.len() != width {
+        return 0;
+    }
+    get_number(bytes)
+}
+
+// Numbers of 64 bits, as hash values are: eight bytes, highest first. What it shares with that of 32 bits are the two calls
+// above; no trait stands for both kinds of number.
 impl Record for u64 {
     ghost layout = { number_layout };
 
@@ -64,16 +87,11 @@ impl Record for u64 {
     }
 
     fn put(self, out: &mut [u8]) {
-        if out.len() == 8 {
-            put_number(out, self);
-        }
+        put_sized(out, 8, self);
     }
 
     fn get(bytes: &[u8]) -> u64 {
-        if bytes.len() != 8 {
-            return 0;
-        }
-        get_number(bytes)
+        get_sized(bytes, 8)
     }
 }
 
@@ -88,15 +106,10 @@ impl Record for u32 {
     }
 
     fn put(self, out: &mut [u8]) {
-        if out.len() == 4 {
-            put_number(out, self as u64);
-        }
+        put_sized(out, 4, u64::from(self));
     }
 
     fn get(bytes: &[u8]) -> u32 {
-        if bytes.len() != 4 {
-            return 0;
-        }
-        (get_number(bytes) % (1 << 32)) as u32
+        (get_sized(bytes, 4) % (1 << 32)) as u32
     }
 }

@@ -1,7 +1,14 @@
 -- The order by a key is lawful, that of numbers by size among them.
-use Rattle.std.proofs.Common.{◌≡◌, ℕ, List, [], ◌∷◌, Ordering, Less, Equal, refl, arith}
+use Rattle.std.proofs.Common.{◌≡◌, ℕ, List, [], ◌∷◌, Ordering, Less, Equal, Greater, refl, ap, ◌∙◌, arith}
+use Rattle.std.specs.Cmp.{IsTotalOrder}
+use Rattle.std.specs.Ordering.{ordering_reverse}
 use Rattle.std.proofs.lemmas.Bool.Decides.{nat_tests}
 use Rattle.runs.specs.Order.{Lawful, ranked, by_key, by_size, turned}
+
+turned_reverse : (o : Ordering) → turned o ≡ ordering_reverse o
+turned_reverse Less = refl
+turned_reverse Equal = refl
+turned_reverse Greater = refl
 
 -- one number of a key, before what decides where it is equal
 ranked_same : (m n : ℕ) (rest : Ordering) → ranked m n rest ≡ Equal → (m ≡ n) × (rest ≡ Equal)
@@ -45,4 +52,25 @@ key_lawful key apart = record {
 }
 
 pub size_lawful : Lawful by_size
-size_lawful = key_lawful (λ n. n ∷ []) (λ m n e. cc)
+size_lawful = record {
+  same = λ x y h. grind (arith, nat_tests);
+  turns = λ x y. grind (arith, nat_tests);
+  trans = λ x y z h k. grind (arith, nat_tests);
+}
+
+-- a lawful order is total, as the library says it
+pub lawful_total : {E : Type 0} {order : E → E → Ordering} → Lawful order → IsTotalOrder order
+lawful_total {E} {order} laws = record {
+  antisymm = λ x y. laws.turns y x ∙ turned_reverse (order y x);
+  trans = laws.trans;
+  congr = λ x y z e. ap (λ (w : E). order w z) (laws.same x y e);
+}
+
+-- and answers equal of an element and itself
+pub lawful_self : {E : Type 0} {order : E → E → Ordering} → Lawful order → (x : E) → order x x ≡ Equal
+lawful_self {E} {order} laws x = own (order x x) (laws.turns x x)
+  where
+    own : (o : Ordering) → o ≡ turned o → o ≡ Equal
+    own Less e = cc
+    own Equal e = refl
+    own Greater e = cc

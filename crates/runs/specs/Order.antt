@@ -1,7 +1,8 @@
 -- Ordered elements: what an order is, which laws it keeps, and the order by a key.
-use Rattle.std.specs.Prelude.{◌≡◌, ℕ, cond, List, [], ◌∷◌, nat_lt}
+use Rattle.std.specs.Prelude.{◌≡◌, ℕ, List, [], ◌∷◌}
 use Rattle.std.specs.declared.cmp.Ordering.TheVariants.{Less, Equal, Greater}
 use Rattle.std.specs.declared.cmp.Ordering.{Ordering}
+use Rattle.std.specs.Ordering.{nat_cmp, ordering_then}
 
 -- what becomes of an answer when the two elements are exchanged
 abbrev pub turned : Ordering → Ordering
@@ -17,7 +18,7 @@ pub record Lawful {E : Type 0} (order : E → E → Ordering) : Type 0 where
 
 -- the order of two numbers, and what decides where they are equal
 abbrev pub ranked : ℕ → ℕ → Ordering → Ordering
-ranked m n rest = cond (nat_lt m n) Less (cond (nat_lt n m) Greater rest)
+ranked m n rest = ordering_then (nat_cmp m n) rest
 
 -- the order of two keys, number by number
 abbrev pub by_key : List ℕ → List ℕ → Ordering
@@ -28,4 +29,4 @@ by_key (m ∷ ms) (n ∷ ns) = ranked m n (by_key ms ns)
 
 -- numbers, ordered by size
 abbrev pub by_size : ℕ → ℕ → Ordering
-by_size m n = ranked m n Equal
+by_size = nat_cmp

@@ -2,13 +2,9 @@
 use Rattle.std.specs.Prelude.{◌≡◌, ℕ, suc, Bool, true, false, cond, ◌&&◌, T, List, [], ◌∷◌, length, take, drop, Some, None, Option, nat_le, refl}
 use Rattle.std.specs.declared.cmp.Ordering.{Ordering}
 use Rattle.std.proofs.Common.{sym, subst, zero-le}
+use Rattle.std.specs.List.{list_all}
 use Rattle.std.specs.Ordering.{is_lt}
 use Rattle.std.proofs.lemmas.Bool.{le-leb}
-
--- each element passes the test
-abbrev pub every : {E : Type 0} → (E → Bool) → List E → Bool
-every test [] = true
-every test (x ∷ xs) = test x && every test xs
 
 module _ {E : Type 0} (order : E → E → Ordering) where
   -- x is less than the first of the list, and the list is a run
@@ -51,7 +47,7 @@ module _ {E : Type 0} (order : E → E → Ordering) where
 
   -- the check of a plain row, places of which some are counted: those are a run, and the others are unused
   abbrev pub is_run_row : (E → Bool) → ℕ → List E → Bool
-  is_run_row blank count places = nat_le count (length places) && (rising (take count places) && every blank (drop count places))
+  is_run_row blank count places = nat_le count (length places) && (rising (take count places) && list_all blank (drop count places))
 
   -- what a plain row stands for: its counted places, or nothing where it fails the check
   abbrev pub row_items : (E → Bool) → ℕ → List E → List E

@@ -2,6 +2,7 @@
 #![tactic(auto)]
 
 pub mod element;
+pub mod row;
 pub mod run;
 pub mod union;
 pub mod word;

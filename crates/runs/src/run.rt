@@ -1,49 +1,36 @@
 ghost use Rattle.std.specs.Prelude.{◌≡◌};
-ghost use Rattle.runs.specs.Runs.{first_fall, every, is_run_row};
+ghost use Rattle.runs.specs.Runs.{first_fall, is_run_row};
+ghost use Rattle.std.specs.List.{list_all};
 
 use crate::element::Element;
-use std::cmp::Ordering;
 
 // The place of the first element that is not greater than its predecessor; none in a run.
 pub fn fall<E: Element>(items: &[E]) -> Option<usize>
-    ensures { result ≡ first_fall E.Element.order items.now }
+    ensures { result ≡ first_fall E.Ord.cmp items.now }
 {
-    let [first, rest @ ..] = items else {
-        return None;
-    };
-    let mut last = *first;
-    let mut place = 1;
-    for x in rest {
-        match last.compare(*x) {
-            Ordering::Less => last = *x,
-            _ => return Some(place),
+    let (mut last, rest) = items.split_first()?;
+    for (i, x) in rest.iter().enumerate() {
+        if last >= x {
+            return Some(i + 1);
         }
-        place += 1;
+        last = x;
     }
     None
 }
 
 // Whether each place is as an unused one.
 pub fn all_blank<E: Element>(items: &[E]) -> bool
-    ensures { result ≡ every E.Element.blank items.now }
+    ensures { result ≡ list_all E.Element.blank items.now }
 {
-    for x in items {
-        if !x.is_blank() {
-            return false;
-        }
-    }
-    true
+    items.iter().all(|x| x.is_blank())
 }
 
 // The check of a plain row: its first `count` places are a run, and the others are unused.
 pub fn is_run_row<E: Element>(count: usize, places: &[E]) -> bool
-    ensures { result ≡ is_run_row E.Element.order E.Element.blank count places.now }
+    ensures { result ≡ is_run_row E.Ord.cmp E.Element.blank count places.now }
 {
-    if count > places.len() {
+    let Some((front, rest)) = places.split_at_checked(count) else {
         return false;
-    }
-    if fall(&places[0..count]).is_some() {
-        return false;
-    }
-    all_blank(&places[count..])
+    };
+    fall(front).is_none() && all_blank(rest)
 }

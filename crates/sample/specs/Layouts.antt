@@ -1,11 +1,13 @@
 -- Records of a sample are told apart by their key, and read back as they were written.
-use Rattle.std.specs.Prelude.{◌≡◌, ℕ, T, List, ◌++◌, length, take, drop}
-use Rattle.std.proofs.Common.{sym, ap, ◌∙◌, arith}
+use Rattle.std.specs.Prelude.{◌≡◌, ℕ, Bool, true, ◌&&◌, ◌==◌, T, List, ◌++◌, length, take, drop}
+use Rattle.std.proofs.Common.{refl, sym, ap, ◌∙◌, arith}
 use borrow.Rule.Slice.PartMut.{put_mid}
 use Rattle.std.proofs.lemmas.List.{length-append, length-drop, take_all, drop_all, drop-drop, append_assoc, append-nil, take-append-drop}
 use Rattle.std.proofs.lemmas.Bool.Decides.{nat_tests}
+use Rattle.std.specs.Cmp.{IsTotalOrder, IsPartialOrder, Agrees, both_ways, Equal-is, partial_order_from_agreeing_total}
+use Rattle.std.specs.Ordering.{as_partial_cmp, eq_by_cmp, is_eq}
 use Rattle.runs.specs.Order.{Lawful}
-use Rattle.runs.proofs.Orders.{key_lawful}
+use Rattle.runs.proofs.Orders.{key_lawful, lawful_total, lawful_self}
 use Rattle.frames.specs.Numbers.{in_bytes, from_bytes}
 use Rattle.frames.proofs.Fronts.{next_written}
 use Rattle.frames.proofs.Numbers.{from_in_bytes, length_in}
@@ -34,6 +36,35 @@ one_unused x y t u =
 
 pub hash_lawful : Lawful by_hash
 hash_lawful = key_lawful sample_key key_apart
+
+-- the order as the library's: total, beside its partial form, and equal exactly where records are
+pub hash_total : IsTotalOrder by_hash
+hash_total = lawful_total hash_lawful
+
+pub hash_agrees : Agrees (as_partial_cmp by_hash) by_hash
+hash_agrees = λ x y. refl
+
+-- whether two records are equal, part by part
+abbrev same_parts : SampleRecord → SampleRecord → Bool
+same_parts x y = x.item == y.item && (x.tenant == y.tenant && x.amount == y.amount)
+
+pub hash_matches : (x y : SampleRecord) → same_parts x y ≡ eq_by_cmp by_hash x y
+hash_matches x y = both_ways (same_parts x y) (is_eq (by_hash x y)) one other
+  where
+    one : same_parts x y ≡ true → is_eq (by_hash x y) ≡ true
+    one e =
+        let a : x.item ≡ y.item = grind (arith, nat_tests) in
+        let b : x.tenant ≡ y.tenant = grind (arith, nat_tests) in
+        let c : x.amount ≡ y.amount = grind (arith, nat_tests) in
+        ap (λ (z : SampleRecord). is_eq (by_hash x z)) (sym (same_record x y a b c)) ∙ ap is_eq (lawful_self hash_lawful x)
+
+    other : is_eq (by_hash x y) ≡ true → same_parts x y ≡ true
+    other e =
+        let s : x ≡ y = hash_lawful.same x y ((Equal-is (by_hash x y)).0 e) in
+        ap (λ (z : SampleRecord). same_parts x z) (sym s) ∙ grind (arith, nat_tests)
+
+pub hash_partial : IsPartialOrder same_parts (as_partial_cmp by_hash)
+hash_partial = partial_order_from_agreeing_total by_hash hash_total hash_agrees hash_matches
 
 pub sample_readable : Readable sample_layout
 sample_readable = record {

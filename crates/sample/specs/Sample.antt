@@ -12,12 +12,12 @@ sample_kind = run_kind 3 32 sample_layout by_hash record_of
 
 -- the records that a row counts
 abbrev pub counted : Sample → List SampleRecord
-counted row = take row.count row.records
+counted row = take row.row.count row.row.places
 
 -- the check of a plain row: each of its records is less than the next, and zeros stand behind them
 abbrev pub row_kept : Sample → Bool
-row_kept row = is_run_row by_hash unused row.count row.records
+row_kept row = is_run_row by_hash unused row.row.count row.row.places
 
 -- what a plain row stands for: the run of its records, or the empty one where it fails the check
 abbrev pub sample_form : Sample → Run by_hash 32
-sample_form row = row_form by_hash unused 32 row.count row.records
+sample_form row = row_form by_hash unused 32 row.row.count row.row.places

@@ -4,4 +4,3 @@
 pub mod kind;
 pub mod record;
 pub mod row;
-pub mod run;

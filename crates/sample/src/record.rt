@@ -1,37 +1,40 @@
 ghost use Rattle.std.specs.Prelude.{◌≡◌};
 ghost use Rattle.readings.specs.Readings.{hash_of};
 ghost use Rattle.sample.specs.Records.{record_of, reading_of, by_hash, unused, sample_layout};
-ghost use Rattle.sample.specs.Layouts.{hash_lawful, one_unused};
+ghost use Rattle.sample.specs.Layouts.{hash_lawful, one_unused, hash_total, hash_agrees, hash_matches, hash_partial};
+ghost use Rattle.std.specs.Ordering.{as_partial_cmp};
 ghost use Rattle.std.proofs.Common.{rules};
 
 use readings::Reading;
 use records::record::Record;
-use runs::element::{Element, rank};
+use runs::element::Element;
 use std::cmp::Ordering;
 
 // How many bytes a record has in a frame.
 const WIDTH: usize = 20;
 
 // A reading in a sample.
-#[derive(Clone, Copy, PartialEq, Eq, Debug)]
+#[derive(Clone, Copy, PartialEq, Eq, Default, Debug)]
 pub struct SampleRecord {
     pub item: u64,
     pub tenant: u32,
     pub amount: u64,
 }
 
-impl SampleRecord {
-    // What a record keeps of a reading.
-    pub fn of(reading: Reading) -> SampleRecord
-        ensures { result ≡ record_of reading }
-    {
+// What a record keeps of a reading.
+impl From<Reading> for SampleRecord {
+    ghost from_gives = { λ reading r. r ≡ record_of reading };
+
+    fn from(reading: Reading) -> SampleRecord {
         SampleRecord {
             item: reading.item,
             tenant: reading.tenant,
             amount: reading.amount,
         }
     }
+}
 
+impl SampleRecord {
     // The hash of the reading that the record keeps.
     pub fn hash(self) -> u64
         ensures { result ≡ hash_of (reading_of self) }
@@ -43,24 +46,49 @@ impl SampleRecord {
         };
         reading.hash()
     }
+
+    // What records are compared by, one part after another.
+    fn key(self) -> (u64, u64, u32, u64)
+        ensures { result ≡ (hash_of (reading_of self), self.item, self.tenant, self.amount) }
+    {
+        (self.hash(), self.item, self.tenant, self.amount)
+    }
 }
 
-// By hash, then item, tenant and amount; zeros where unused.
-impl Element for SampleRecord {
-    ghost order = { by_hash };
+// By hash, then item, tenant and amount. No derive: the hash is no field.
+impl Ord for SampleRecord {
+    ghost cmp = { by_hash };
 
+    ghost total = { hash_total };
+
+    ghost matches_partial_cmp = { hash_agrees };
+
+    ghost matches_eq = { hash_matches };
+
+    fn cmp(&self, other: &SampleRecord) -> Ordering {
+        self.key().cmp(&other.key())
+    }
+}
+
+impl PartialOrd for SampleRecord {
+    ghost partial_cmp = { as_partial_cmp by_hash };
+
+    ghost laws = { hash_partial };
+
+    fn partial_cmp(&self, other: &SampleRecord) -> Option<Ordering> {
+        Some(self.cmp(other))
+    }
+}
+
+// Zeros where unused.
+impl Element for SampleRecord {
     ghost blank = { unused };
 
     ghost lawful = { hash_lawful };
 
     ghost one_blank = { one_unused };
 
-    fn compare(self, other: SampleRecord) -> Ordering {
-        let amounts = rank(self.amount, other.amount, Ordering::Equal);
-        let tenants = rank(self.tenant as u64, other.tenant as u64, amounts);
-        let items = rank(self.item, other.item, tenants);
-        rank(self.hash(), other.hash(), items)
-    }
+    ghost fresh = { Prim.search rules };
 
     fn is_blank(self) -> bool {
         self.item == 0 && self.tenant == 0 && self.amount == 0
@@ -87,11 +115,7 @@ impl Record for SampleRecord {
 
     fn get(bytes: &[u8]) -> SampleRecord {
         if bytes.len() != WIDTH {
-            return SampleRecord {
-                item: 0,
-                tenant: 0,
-                amount: 0,
-            };
+            return SampleRecord::default();
         }
         SampleRecord {
             item: u64::get(&bytes[0..8]),

@@ -1,5 +1,6 @@
 -- The numbers of the refusals of a synopsis.
-use Rattle.std.specs.Prelude.{ℕ}
+use Rattle.std.specs.Prelude.{ℕ, List, ◌++◌, codes}
+use Rattle.std.specs.Fmt.{decimal}
 use Rattle.synopsis.specs.declared.fault.Reason.{Reason}
 use Rattle.synopsis.specs.declared.fault.Reason.TheVariants.{Overlong, Short, OtherKind, Count, End, Order, Offset}
 use Rattle.synopsis.specs.declared.fault.EncodeFault.{EncodeFault}
@@ -23,3 +24,10 @@ encode_number no_encoding.Room = 8
 
 abbrev pub fault : Reason → ℕ → ℕ → DecodeFault
 fault why at number = record { reason = why; place = at; kind = number }
+
+-- how each is written: the number of the refusal, and of bytes that are no frame the place and the kind
+abbrev pub fault_text : DecodeFault → List ℕ
+fault_text e = codes "number " ++ decimal (reason_number e.reason) ++ codes ", at byte " ++ decimal e.place ++ codes ", in kind " ++ decimal e.kind
+
+abbrev pub encode_text : EncodeFault → List ℕ
+encode_text e = codes "number " ++ decimal (encode_number e)

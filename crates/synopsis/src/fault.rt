@@ -1,42 +1,39 @@
-ghost use Rattle.std.specs.Prelude.{◌≡◌};
-ghost use Rattle.synopsis.specs.Faults.{reason_number, encode_number};
+ghost use Rattle.std.specs.Prelude.{◌≡◌, Some};
+ghost use Rattle.synopsis.specs.Faults.{reason_number, encode_number, fault, fault_text, encode_text};
+
+use std::error::Error;
+use std::fmt;
 
 // Why bytes are refused as a frame.
 #[derive(Clone, Copy, PartialEq, Eq, Debug)]
 pub enum Reason {
     // the kind has forms too long for any frame
-    Overlong,
+    Overlong = 3,
     // fewer bytes than a header has
-    Short,
+    Short = 9,
     // the number of another kind
-    OtherKind,
+    OtherKind = 10,
     // a count that the kind does not have
-    Count,
+    Count = 11,
     // an end that disagrees with the bytes or with the count
-    End,
+    End = 12,
     // a record that is not greater than its predecessor
-    Order,
+    Order = 13,
     // no place for a second side
-    Offset,
+    Offset = 14,
 }
 
 impl Reason {
+    // The number of the refusal: a method, since `u8::from(reason)` would not say which number of it.
     pub fn number(self) -> u8
         ensures { result ≡ reason_number self }
     {
-        match self {
-            Reason::Overlong => 3,
-            Reason::Short => 9,
-            Reason::OtherKind => 10,
-            Reason::Count => 11,
-            Reason::End => 12,
-            Reason::Order => 13,
-            Reason::Offset => 14,
-        }
+        self as u8
     }
 }
 
-// What is wrong with bytes that are no frame: why, at which byte, and the number of the kind that refused them.
+// What is wrong with bytes that are no frame: why, at which byte, and the number of the kind that refused them; no enum, since
+// any type may be a kind.
 #[derive(Clone, Copy, PartialEq, Eq, Debug)]
 pub struct DecodeFault {
     pub reason: Reason,
@@ -44,22 +41,59 @@ pub struct DecodeFault {
     pub kind: u8,
 }
 
+impl DecodeFault {
+    // The fault of bytes that the kind of this number refuses, for a reason that shows at this place.
+    pub fn new(reason: Reason, place: usize, kind: u8) -> DecodeFault
+        ensures { result ≡ fault reason place kind }
+    {
+        DecodeFault {
+            reason,
+            place,
+            kind,
+        }
+    }
+}
+
+impl fmt::Display for DecodeFault {
+    ghost output = { λ e. Some (fault_text e) };
+
+    fn fmt<W: fmt::Write>(&self, f: &mut fmt::Formatter<W>) -> fmt::Result {
+        write!(
+            f,
+            "number {}, at byte {}, in kind {}",
+            self.reason.number(),
+            self.place,
+            self.kind
+        )
+    }
+}
+
+impl Error for DecodeFault {}
+
 // Why no frame is written.
 #[derive(Clone, Copy, PartialEq, Eq, Debug)]
 pub enum EncodeFault {
     // the kind has forms too long for any frame
-    Overlong,
+    Overlong = 3,
     // fewer bytes than the encoding has
-    Room,
+    Room = 8,
 }
 
 impl EncodeFault {
+    // The number of the refusal.
     pub fn number(self) -> u8
         ensures { result ≡ encode_number self }
     {
-        match self {
-            EncodeFault::Overlong => 3,
-            EncodeFault::Room => 8,
-        }
+        self as u8
     }
 }
+
+impl fmt::Display for EncodeFault {
+    ghost output = { λ e. Some (encode_text e) };
+
+    fn fmt<W: fmt::Write>(&self, f: &mut fmt::Formatter<W>) -> fmt::Result {
+        write!(f, "number {}", self.number())
+    }
+}
+
+impl Error for EncodeFault {}

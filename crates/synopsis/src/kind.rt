@@ -1,4 +1,4 @@
-ghost use Rattle.std.specs.Prelude.{◌≡◌, length};
+ghost use Rattle.std.specs.Prelude.{◌≡◌, ℕ, length};
 ghost use Rattle.synopsis.specs.Kind.{Kind, Laws, overlong, frame_length, encode_answer, encode_after, Decoded};
 
 use crate::fault::{DecodeFault, EncodeFault};
@@ -6,17 +6,23 @@ use readings::Reading;
 
 // A synopsis: a small mergeable summary of readings, of one kind.
 pub trait Synopsis: Sized + Drop {
-    const NUMBER: u8;
-
     // what the kind means
     ghost kind: { Kind };
+
+    // the kind number, in code and in clauses
+    const NUMBER: u8;
+
+    ghost NUMBER: { ℕ };
 
     // the form of a value
     ghost form: { Self → kind.Form };
 
     // The kind number.
-    fn kind_number() -> u8
-        ensures { result ≡ kind.number };
+    final fn kind_number() -> u8
+        ensures { result ≡ kind.number }
+    {
+        Self::NUMBER
+    }
 
     // The greatest length of an encoding; 2,049 for an overlong kind.
     fn greatest_length() -> usize
@@ -53,6 +59,8 @@ pub trait Synopsis: Sized + Drop {
     // DECODE: the form that the bytes encode, here; on a refusal the value stays.
     fn decode(&mut self, frame: &[u8]) -> Result<(), DecodeFault>
         ensures { Decoded kind form frame.now self.old self.new result };
+
+    ghost numbered: { NUMBER ≡ kind.number };
 
     ghost lawful: { Laws kind };
 }

@@ -1,23 +1,42 @@
 // Answers case lines by the proved library: a line on standard output for each on standard input.
 #![tactic(auto)]
 
-mod answer;
-mod case;
-mod fault;
-mod field;
-mod frame;
-mod hex;
-mod outcome;
-mod tally;
-mod value;
-
+use cases::case::Case;
+use cases::hashes::HashCase;
+use cases::kinds::full;
+use least::row::LeastValues;
+use std::alloc::Global;
 use std::io::{BufRead, BufReader};
+use texts::fault::Fault;
+use texts::field::word;
+use texts::line::answered;
 
+const MOST_ROOM: u64 = 1024;
+
+// The case of least values that the fields of a line write.
+fn read(heap: Global, fields: &[&str]) -> Result<Case<LeastValues>, Fault> {
+    match fields {
+        ["full", last] => Ok(Case::Figures(full(word(last)?))),
+        _ => Case::read(heap, MOST_ROOM, fields),
+    }
+}
+
+fn answer(heap: Global, line: &str) -> Result<String, Fault> {
+    let fields: Vec<&str> = line.split(' ').collect(heap)?;
+    let fields = fields.as_slice();
+    let text = match fields {
+        ["item" | "mark" | "outputs", ..] => HashCase::read(fields)?.answer(heap)?.to_string(heap)?,
+        _ => read(heap, fields)?.answer(heap)?.to_string(heap)?,
+    };
+    Ok(text)
+}
+
+// The loop over lines stands in each such program: shared, it would ask that a closure may be called.
 fn main(rt: HostRuntime) -> anyhow::Result<()> {
     let heap = rt.alloc();
     for line in BufReader::new(heap, rt.stdin())?.lines(heap) {
         let text = line?;
-        rt.println(answer::to_line(heap, text.as_str())?)?;
+        rt.println(answered(heap, answer(heap, text.as_str()))?)?;
     }
     Ok(())
 }

@@ -4,8 +4,8 @@ use Rattle.diffusion.specs.Turns.{tells, state_of, Ran}
 use Rattle.diffusion.proofs.run.run.Given as goal
 
 -- the turns so far are a run, and there is a place for every answer
-abbrev pub invariant-loop-t : goal.invariant-loop-t
-invariant-loop-t g l =
+abbrev pub invariant-loop-turn : goal.invariant-loop-turn
+invariant-loop-turn g l =
     let k = g.S.Synopsis.kind in
-    (vec_len l.answers ≡ l.t-index) × (length l.turns ≤ vec_capacity l.answers)
-    × ((h : History) × Ran k l.nodes (take l.t-index l.turns) (map tells (vec_items l.answers)) h (state_of k g.S.Synopsis.form l.network l.values l.memory))
+    (vec_len l.answers ≡ l.turn-index) × (length l.turns ≤ vec_capacity l.answers)
+    × ((h : History) × Ran k l.nodes (take l.turn-index l.turns) (map tells (vec_items l.answers)) h (state_of k g.S.Synopsis.form l.network l.values l.memory))

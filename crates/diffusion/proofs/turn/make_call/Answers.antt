@@ -1,23 +1,27 @@
-use Rattle.std.proofs.Common.{◌≡◌, ℕ, List, length, get_or, take, sym, ap, ◌∙◌, arith}
+use Rattle.std.proofs.Common.{◌≡◌, ℕ, List, length, take, sym, ap, ◌∙◌, arith, rules}
 use Rattle.std.proofs.lemmas.List.{take_all}
-use Rattle.network.specs.Calls.{deliver_answer, slot_frame, no_slot}
-use Rattle.diffusion.specs.Turns.{tells, plainly, state_of, call_tells, call_after}
-use Rattle.diffusion.proofs.Making.{joined_leaves, still_so}
+use Rattle.network.specs.Calls.{deliver_answer}
+use Rattle.diffusion.specs.Turns.{tells, plainly, state_of, call_tells}
+use Rattle.diffusion.proofs.turn.make_call.Goals.{in-Generate, in-Arrive, in-Send, in-Deliver, in-Drop}
 use Rattle.diffusion.proofs.turn.make_call.Goals as goal
 
-pub returns-in-Deliver : goal.returns-in-Deliver
-returns-in-Deliver g c =
+pub returns-clause-answer : goal.returns-clause-answer
+returns-clause-answer g c =
     let k = g.S.Synopsis.kind in
-    let form = g.S.Synopsis.form in
     let net = c.args.network.now in
-    let values = c.args.values.now in
     let memory = c.args.memory.now in
-    let st = state_of k form net values memory in
-    let told = tells c.plain-in-Deliver.result in
-    let is = c.in-Deliver.is in
-    let whole : take (length memory) memory ≡ memory = take_all (length memory) memory (omega arith) in
-    record {
-      answer = c.plain-in-Deliver.ensures ∙ ap plainly c.deliver.ensures.answer ∙ sym (ap (λ (l : List ℕ). plainly (deliver_answer k net (length values) (length memory) l c.in-Deliver.slot c.in-Deliver.node)) whole) ∙ sym (ap (call_tells k st (length values) (length memory)) is);
-      after = joined_leaves k form net values c.deliver.new.values memory c.in-Deliver.node (slot_frame memory c.in-Deliver.slot (get_or net.slots c.in-Deliver.slot no_slot)) c.deliver.result told c.plain-in-Deliver.ensures c.deliver.ensures.after ∙ sym (ap (call_after k st told) is);
-      still = still_so _ values c.deliver.new.values c.deliver.result told c.plain-in-Deliver.ensures c.deliver.ensures.after;
-    }
+    let v = length c.args.values.now in
+    let m = length memory in
+    let st = state_of k g.S.Synopsis.form net c.args.values.now memory in
+    let whole : take m memory ≡ memory = take_all m memory (omega arith) in
+    elim c.match-call.branch [
+      | in-Generate w ↦ search rules
+      | in-Arrive w ↦ search rules
+      | in-Send w ↦ search rules
+      | in-Deliver w ↦
+          let slot = w.in-Deliver.slot in
+          let node = w.in-Deliver.node in
+          let told : tells c.map.result ≡ plainly (deliver_answer k net v m memory slot node) = search rules in
+          told ∙ sym (ap (λ (l : List ℕ). plainly (deliver_answer k net v m l slot node)) whole) ∙ sym (ap (call_tells k st v m) w.in-Deliver.is)
+      | in-Drop w ↦ search rules
+    ]

@@ -1,7 +1,6 @@
-use Rattle.std.proofs.Common.{◌≡◌, map, take, drop, replicate}
+use Rattle.std.proofs.Common.{◌≡◌, map, take, replicate}
 use Rattle.network.proofs.calls.empty_front.Given as goal
 
-abbrev pub invariant-loop-i : goal.invariant-loop-i
-invariant-loop-i g l =
-    (map g.S.Synopsis.form (take l.i l.values) ≡ replicate l.i g.S.Synopsis.kind.none)
-    × (drop l.i l.values ≡ drop l.i l.initial.values)
+-- the values so far are empty
+abbrev pub invariant-loop-value : goal.invariant-loop-value
+invariant-loop-value g l = map g.S.Synopsis.form (take l.value-index l.value-items) ≡ replicate l.value-index g.S.Synopsis.kind.none

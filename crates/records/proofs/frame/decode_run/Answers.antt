@@ -7,44 +7,45 @@ use Rattle.records.proofs.RunLaws.{in_order, frame_in_order}
 use Rattle.records.proofs.Decoding.{placed_after, fall_fits}
 use Rattle.records.proofs.frame.decode_run.Given as given
 use Rattle.records.proofs.frame.decode_run.Goals as goal
+use Rattle.records.proofs.frame.decode_run.Goals.{In-Some}
 
 -- the place of the record that does not rise
-fall_place : (g : given.Over) (c : goal.In-Some g) → 4 + c.in-Some.i * c.width-width.result < 2 ^ 64
+fall_place : (g : given.Over) (c : In-Some g) → 4 + c.in-Some.i * c.width-width.result < 2 ^ 64
 fall_place g c =
-    let order = g.E.Element.order in
-    let n = c.in-Ok.count in
-    let within : n ≤ length c.args.out.now = c.in-Ok.ensures.within in
+    let order = g.E.Ord.cmp in
+    let n = c.in_ok-count.count in
+    let within : n ≤ length c.args.out.now = c.in_ok-count.ensures.within in
     let items = take (n - 0) c.decode_records.new.out in
     let few : length items ≤ n = simp length-take (omega arith) in
     let lt = fall_inside order items c.in-Some.i (sym c.in-Some.ensures) in
     fall_fits c.in-Some.i n g.E.Record.layout.width c.width-width.result (length c.args.out.now) (omega arith) within c.requires.1 c.width-width.ensures
 
-pub overflow_mul-result : goal.overflow_mul-result
-overflow_mul-result g c =
+pub overflow_mul-i : goal.overflow_mul-i
+overflow_mul-i g c =
     let fits = fall_place g c in
     let lt : c.in-Some.i * c.width-width.result < 2 ^ 64 = omega arith in
     search rules
 
-pub overflow_add-result : goal.overflow_add-result
-overflow_add-result g c = let fits = fall_place g c in search rules
+pub overflow_add-i : goal.overflow_add-i
+overflow_add-i g c = let fits = fall_place g c in search rules
 
 pub returns-in-Some : goal.returns-in-Some
 returns-in-Some g c =
-    let p = c.in-Ok.ensures in
+    let p = c.in_ok-count.ensures in
     let after = c.decode_records.new.out in
-    let le : c.in-Ok.count ≤ length after = omega (arith, p.within, c.decode_records.auto.out) in
+    let le : c.in_ok-count.count ≤ length after = omega (arith, p.within, c.decode_records.auto.out) in
     record {
       answer = search rules;
-      after = placed_after c.args.kind 0 (length c.args.out.now) g.E.Record.layout c.args.frame.now c.args.out.now after c.in-Ok.count p le;
+      after = placed_after c.args.kind 0 (length c.args.out.now) g.E.Record.layout c.args.frame.now c.args.out.now after c.in_ok-count.count p le;
     }
 
 pub returns-in-None : goal.returns-in-None
 returns-in-None g c =
-    let order = g.E.Element.order in
+    let order = g.E.Ord.cmp in
     let layout = g.E.Record.layout in
     let most = length c.args.out.now in
-    let p = c.in-Ok.ensures in
-    let n = c.in-Ok.count in
+    let p = c.in_ok-count.ensures in
+    let n = c.in_ok-count.count in
     let after = c.decode_records.new.out in
     let items = take n after in
     let le : n ≤ length after = omega (arith, p.within, c.decode_records.auto.out) in

@@ -4,10 +4,10 @@ use Rattle.records.specs.Records.{cut}
 use Rattle.records.proofs.record.get_all.Given as goal
 
 -- the records so far are read, and the others lie in the bytes that are left
-abbrev pub invariant-loop-i : goal.invariant-loop-i
-invariant-loop-i g l =
+abbrev pub invariant-loop-place : goal.invariant-loop-place
+invariant-loop-place g l =
     let r = g.E.Record.layout in
-    let left = length l.initial.out - l.i in
+    let left = length l.initial.out - l.place-index in
     (l.at + left * r.width ≡ length l.bytes)
-    × (take l.i l.out ++ cut r left (drop l.at l.bytes) ≡ cut r (length l.initial.out) l.bytes)
-    × (flat_map r.written (take l.i l.out) ≡ take l.at l.bytes)
+    × (take l.place-index l.out ++ cut r left (drop l.at l.bytes) ≡ cut r (length l.initial.out) l.bytes)
+    × (flat_map r.written (take l.place-index l.out) ≡ take l.at l.bytes)

@@ -2,7 +2,6 @@ use Rattle.std.proofs.Common.{◌≡◌, ◌+◌, drop}
 use Rattle.runs.specs.Runs.{fall_from, first_fall}
 use Rattle.runs.proofs.run.fall.Given as goal
 
-abbrev pub invariant-loop-x : goal.invariant-loop-x
-invariant-loop-x g l =
-    (l.place ≡ l.x-index + 1)
-    × (fall_from g.E.Element.order l.last l.place (drop l.x-index l.rest) ≡ first_fall g.E.Element.order l.items)
+-- the fall is in what is left
+abbrev pub invariant-loop-i : goal.invariant-loop-i
+invariant-loop-i g l = fall_from g.E.Ord.cmp l.last (l.i + 1) (drop l.i l.rest) ≡ first_fall g.E.Ord.cmp l.items

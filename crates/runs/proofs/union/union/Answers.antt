@@ -1,38 +1,27 @@
-use Rattle.std.proofs.Common.{◌<◌, length, arith}
-use Rattle.std.proofs.lemmas.List.{length-set}
-use Rattle.runs.proofs.Steps.{written_more, beyond_more, written_full, written_all, written_length}
+use Rattle.std.proofs.Common.{length, get_or, ◌∙◌, arith}
+use Rattle.std.proofs.lemmas.List.{take-set-le}
+use Rattle.runs.specs.Union.{merge}
+use Rattle.runs.proofs.Steps.{written_full, written_all}
 use Rattle.runs.proofs.Unions.{joins}
 use Rattle.runs.proofs.union.union.Goals as goal
 
-pub loop-n-preserved : goal.loop-n-preserved
-loop-n-preserved g c =
-    let n = c.loop-n.n in
-    let s = c.in-Some.ensures in
-    let lt : n < length c.loop-n.out = omega arith in
-    (simp length-set (omega arith), s.1, s.2, written_more c.loop-n.out n lt _ _ _ _ c.loop-n.invariant.3 s.0, beyond_more c.loop-n.out n c.args.out.now _ c.loop-n.invariant.4)
+pub returns-after-loop-place-clause-joins : goal.returns-after-loop-place-clause-joins
+returns-after-loop-place-clause-joins g c = joins g.E.Ord.cmp g.met.E.Element.lawful
 
-pub returns-after-loop-n : goal.returns-after-loop-n
-returns-after-loop-n g c =
-    let k = length c.args.out.now in
-    let v = written_full c.loop-n.out _ _ c.loop-n.n k c.loop-n.invariant.0 c.loop-n.invariant.3 c.loop-n.auto.out (omega arith) in
-    let laws = joins g.E.Element.order g.met.E.Element.lawful in
-    record {
-      count = written_length c.loop-n.out _ _ c.loop-n.n k c.loop-n.invariant.0 c.loop-n.invariant.3 c.loop-n.auto.out v;
-      value = v;
-      same = c.loop-n.invariant.4;
-      joins = laws;
-      least = λ ha hb. rw v (laws.means k c.args.a.now c.args.b.now ha hb);
-    }
+pub returns-in_default-clause-joins : goal.returns-in_default-clause-joins
+returns-in_default-clause-joins g c = joins g.E.Ord.cmp g.met.E.Element.lawful
 
-pub returns-in_default : goal.returns-in_default
-returns-in_default g c =
+pub returns-after-loop-place-clause-least : goal.returns-after-loop-place-clause-least
+returns-after-loop-place-clause-least g c =
     let k = length c.args.out.now in
-    let v = written_all c.loop-n.out _ _ c.loop-n.n k c.loop-n.invariant.0 c.loop-n.invariant.3 c.loop-n.auto.out c.in_default.ensures in
-    let laws = joins g.E.Element.order g.met.E.Element.lawful in
-    record {
-      count = written_length c.loop-n.out _ _ c.loop-n.n k c.loop-n.invariant.0 c.loop-n.invariant.3 c.loop-n.auto.out v;
-      value = v;
-      same = c.loop-n.invariant.4;
-      joins = laws;
-      least = λ ha hb. rw v (laws.means k c.args.a.now c.args.b.now ha hb);
-    }
+    let i = c.loop-place.invariant in
+    let v = written_full c.loop-place.out (merge g.E.Ord.cmp c.args.a.now c.args.b.now) (merge g.E.Ord.cmp c.loop-place.left.now c.loop-place.right.now) c.loop-place.n k (omega arith) i.union c.loop-place.auto.out (omega arith) in
+    λ ha hb. rw v ((joins g.E.Ord.cmp g.met.E.Element.lawful).means k c.args.a.now c.args.b.now ha hb)
+
+pub returns-in_default-clause-least : goal.returns-in_default-clause-least
+returns-in_default-clause-least g c =
+    let k = length c.args.out.now in
+    let i = c.loop-place.invariant in
+    let n = c.loop-place.n in
+    let v = take-set-le n c.loop-place.out c.loop-place.place-index (get_or c.loop-place.out c.loop-place.place-index c.place-item.result) (omega arith) ∙ written_all c.loop-place.out (merge g.E.Ord.cmp c.args.a.now c.args.b.now) (merge g.E.Ord.cmp c.loop-place.left.now c.loop-place.right.now) n k (omega arith) i.union c.loop-place.auto.out c.in_default.ensures in
+    λ ha hb. rw v ((joins g.E.Ord.cmp g.met.E.Element.lawful).means k c.args.a.now c.args.b.now ha hb)

@@ -5,9 +5,9 @@ use Rattle.bitmaps.specs.Bitmaps.{as_maps, formed, map_layout}
 use Rattle.bitmaps.specs.Forms.{kept}
 use Rattle.bitmaps.proofs.kind.BitmapsSynopsis.decode.Goals as goal
 
-pub returns-in-Ok : goal.returns-in-Ok
-returns-in-Ok c =
-    let p = c.in-Ok.ensures in
+pub returns : goal.returns
+returns c =
+    let p = c.in_ok-decode_records.ensures in
     let maps = c.decode_records.new.out in
     let long : length maps ≡ 64 = search rules in
     let all = take_all _ maps (omega (arith, p.enough, long)) in

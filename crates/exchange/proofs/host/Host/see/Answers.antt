@@ -3,4 +3,4 @@ use Rattle.least.specs.Least.{least_kind, least_form}
 use Rattle.exchange.proofs.host.Host.see.Goals as goal
 
 pub returns : goal.returns
-returns c = c.fuse.ensures ∙ ap (least_kind.join (least_form c.args.self.now.value)) c.make.ensures
+returns g c = c.fuse.ensures ∙ ap (least_kind.join (least_form c.args.self.now.value)) c.make.ensures

@@ -1,12 +1,12 @@
 use Rattle.std.proofs.Common.{◌≡◌, ℕ, ◌%◌, ◌^◌, ap, ◌∙◌, arith}
 use Rattle.frames.specs.Numbers.{from_bytes}
-use Rattle.records.specs.Records.{numbers}
-use Rattle.records.proofs.Layouts.{number_got, whole_width}
+use Rattle.records.specs.Records.{of_width, numbers}
+use Rattle.records.proofs.Layouts.{got_sized}
 use Rattle.records.proofs.record.U32Record.get.Goals as goal
 
 pub returns : goal.returns
 returns c =
-    let n = from_bytes c.args.bytes.now in
+    let n = from_bytes (of_width (numbers 4) c.args.bytes.now) in
     let low : n % 2 ^ 64 % 2 ^ 32 ≡ n % 2 ^ 32 = omega arith in
-    let got = number_got 4 c.args.bytes.now _ c.get_number.ensures.small c.if-bytes-ne4.false (ap (λ (m : ℕ). m % 2 ^ 32) c.get_number.ensures.value ∙ low) in
-    record { whole = λ long. (got.0 ∙ ap from_bytes (whole_width (numbers 4) c.args.bytes.now long), got.1); value = got.0 }
+    let got = got_sized 4 c.args.bytes.now (c.get_sized.result % 2 ^ 32) c.get_sized.ensures.small (ap (λ (m : ℕ). m % 2 ^ 32) c.get_sized.ensures.value ∙ low) in
+    record { whole = got.0; value = got.1 }

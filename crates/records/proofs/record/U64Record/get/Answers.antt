@@ -1,10 +1,7 @@
-use Rattle.std.proofs.Common.{ap, ◌∙◌}
-use Rattle.frames.specs.Numbers.{from_bytes}
-use Rattle.records.specs.Records.{numbers}
-use Rattle.records.proofs.Layouts.{number_got, whole_width}
+use Rattle.records.proofs.Layouts.{got_sized}
 use Rattle.records.proofs.record.U64Record.get.Goals as goal
 
 pub returns : goal.returns
 returns c =
-    let got = number_got 8 c.args.bytes.now _ c.get_number.ensures.small c.if-bytes-ne8.false c.get_number.ensures.value in
-    record { whole = λ long. (got.0 ∙ ap from_bytes (whole_width (numbers 8) c.args.bytes.now long), got.1); value = got.0 }
+    let got = got_sized 8 c.args.bytes.now c.get_sized.result c.get_sized.ensures.small c.get_sized.ensures.value in
+    record { whole = got.0; value = got.1 }

@@ -1,0 +1,4 @@
+pub mod Items
+pub mod Places
+pub mod Rooms
+pub mod Tallies

@@ -1,0 +1,4 @@
+pub mod Cases
+pub mod Hashes
+pub mod Outcomes
+pub mod Values

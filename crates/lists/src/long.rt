@@ -1,0 +1,101 @@
+// Many turns that are made as they come: turn i is told by output i of SplitMix64.
+ghost use Rattle.std.specs.Prelude.{IfOk};
+ghost use Rattle.lists.specs.Outcomes.{IsLong};
+
+use crate::counts::Counts;
+use crate::outcome::Outcome;
+use crate::rack::Rack;
+use histories::{Call, Turn};
+use readings::{Reading, mix};
+use std::alloc::AllocError;
+use synopsis::kind::Synopsis;
+
+// The constant that the generator adds to its state.
+const STEP: u64 = 0x9E37_79B9_7F4A_7C15;
+
+pub(crate) const NODES: usize = 7;
+
+// Room for any frame.
+const ROOM: usize = 2048;
+
+// The frame of the reading of this item, in a room for it; no bytes where none is written.
+fn frame_of<S: Synopsis>(item: u64, room: &mut [u8]) -> &[u8] {
+    let value = S::make(Reading {
+        tenant: 0,
+        item,
+        amount: 0,
+    });
+    let length = value
+        .encode(room)
+        .map_or(0, |length| length.min(room.len()));
+    &room[..length]
+}
+
+// The call that a word tells; the frame of an ARRIVE lacks its last byte where the odd part of the word says so.
+fn call_of<S: Synopsis>(word: u64, odd: u64, room: &mut [u8]) -> Call<'_> {
+    let node = (word / 16 % 8) as usize;
+    let slot = (25 + word / 128 % 8) as usize;
+    let rest = word / 1024;
+    match word % 16 {
+        0 | 1 => Call::Generate {
+            node,
+            reading: Reading {
+                tenant: 0,
+                item: rest % 65_536,
+                amount: 0,
+            },
+        },
+        2 => {
+            let frame = frame_of::<S>(word, room);
+            let length = if odd % 8 == 2 {
+                frame.len().saturating_sub(1)
+            } else {
+                frame.len()
+            };
+            Call::Arrive {
+                node,
+                frame: &frame[..length],
+            }
+        }
+        3..=6 => Call::Send { node, slot },
+        7..=10 => Call::Deliver { slot, node },
+        11..=13 => Call::Drop { slot },
+        _ => Call::Read {
+            node,
+            room: (rest % 1024) as usize,
+        },
+    }
+}
+
+// The turn that a word tells: few values, few bytes, or a cut frame now and then.
+fn turn_of<S: Synopsis>(word: u64, room: &mut [u8]) -> Turn<'_> {
+    let odd = word / 0x1_0000_0000_0000 % 64;
+    Turn {
+        values: if odd == 0 { NODES - 1 } else { usize::MAX },
+        bytes: if odd == 1 { 65_535 } else { usize::MAX },
+        call: call_of::<S>(word, odd, room),
+    }
+}
+
+impl<S: Synopsis> Rack<'_, S> {
+    // What so many turns came to, and then what each node holds.
+    pub(crate) fn long(&mut self, seed: u64, count: u64) -> Result<Outcome, AllocError>
+        ensures { IfOk result IsLong }
+    {
+        let mut counts = Counts::new();
+        let mut room: Vec<u8> = vec![in self.heap; 0; ROOM]?;
+        for i in 0..count {
+            let word = mix(seed.wrapping_add(STEP.wrapping_mul(i)));
+            counts.add(&self.turn(&turn_of::<S>(word, room.as_mut_slice()))?);
+        }
+        let mut ends = Vec::with_capacity(self.heap, NODES)?;
+        for node in 0..NODES {
+            ends.push(self.turn(&Turn {
+                values: usize::MAX,
+                bytes: usize::MAX,
+                call: Call::Read { node, room: ROOM },
+            })?)?;
+        }
+        Ok(Outcome::Long { counts, ends })
+    }
+}

@@ -1,0 +1,100 @@
+ghost use Rattle.std.specs.Prelude.{◌≡◌, ℕ, false, T, [], ◌∷◌, take, length, MatchOption};
+ghost use Rattle.runs.specs.Runs.{as_run, is_run_row, row_form};
+ghost use Rattle.runs.specs.Union.{union_of};
+
+use crate::element::Element;
+use crate::run::is_run_row;
+use crate::union::union;
+use std::alloc::AllocError;
+
+// A plain row of places, of which the first `count` are in use: nothing more is known of it. A row that is no run stands
+// for the empty one. It is no Vec with a count of its own, since no call of a kind may want memory.
+#[derive(Clone, Copy, PartialEq, Eq, Debug)]
+pub struct Row<E, const N: usize> {
+    pub count: usize,
+    pub places: [E; N],
+}
+
+// A row that passed the check: what it counts rises strictly, and its other places are unused.
+pub struct Run<E: Element, const N: usize> {
+    pub row: Row<E, N>,
+    ghost kept: { T (is_run_row E.Ord.cmp E.Element.blank row.count row.places) },
+}
+
+// By hand, since neither can be derived beside a ghost field that cites a bound.
+impl<E: Element, const N: usize> Copy for Run<E, N> {}
+
+impl<E: Element, const N: usize> Clone for Run<E, N> {
+    fn clone(&self) -> Result<Run<E, N>, AllocError> {
+        Ok(*self)
+    }
+}
+
+impl<E: Element, const N: usize> Row<E, N> {
+    // A row that counts nothing.
+    pub fn empty() -> Row<E, N>
+        ensures kept { T (is_run_row E.Ord.cmp E.Element.blank result.count result.places) }
+        ensures nothing { take result.count result.places ≡ [] }
+        ensures form { row_form E.Ord.cmp E.Element.blank N result.count result.places ≡ as_run E.Ord.cmp N [] }
+    {
+        Row {
+            count: 0,
+            places: [E::default(); N],
+        }
+    }
+
+    // A row of one element.
+    pub fn single(item: E) -> Row<E, N>
+        ensures { row_form E.Ord.cmp E.Element.blank N result.count result.places ≡ as_run E.Ord.cmp N (item ∷ []) }
+    {
+        let mut places = [E::default(); N];
+        match places.first_mut() {
+            Some(first) => {
+                *first = item;
+                Row { count: 1, places }
+            }
+            None => Row { count: 0, places },
+        }
+    }
+}
+
+impl<E: Element, const N: usize> Run<E, N> {
+    // The run that a plain row is, where it passes the check.
+    pub fn checked(row: &Row<E, N>) -> Option<Run<E, N>>
+        ensures cases { MatchOption result (is_run_row E.Ord.cmp E.Element.blank row.now.count row.now.places ≡ false) (λ t. t.row ≡ row.now) }
+        ensures long { length row.now.places ≡ N }
+    {
+        if !is_run_row(row.count, &row.places) {
+            return None;
+        }
+        Some(Run { row: *row })
+    }
+
+    // The run that a plain row stands for: the empty one where it fails the check.
+    pub fn of(row: &Row<E, N>) -> Run<E, N>
+        ensures { take result.row.count result.row.places ≡ (row_form E.Ord.cmp E.Element.blank N row.now.count row.now.places).items }
+    {
+        let Some(run) = Run::checked(row) else {
+            return Run { row: Row::empty() };
+        };
+        run
+    }
+
+    pub fn as_slice(&self) -> &[E]
+        ensures { result.now ≡ take self.now.row.count self.now.row.places }
+    {
+        let places = &self.row.places[..];
+        &places[0..self.row.count]
+    }
+
+    // The union of two runs, the greatest of it cut where the places are too few.
+    pub fn joined(&self, other: &Run<E, N>) -> Run<E, N>
+        ensures { take result.row.count result.row.places ≡ union_of E.Ord.cmp N (take self.now.row.count self.now.row.places) (take other.now.row.count other.now.row.places) }
+    {
+        let mut places = [E::default(); N];
+        let count = union(self.as_slice(), other.as_slice(), &mut places);
+        Run {
+            row: Row { count, places },
+        }
+    }
+}

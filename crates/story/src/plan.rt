@@ -1,0 +1,160 @@
+// A plan: turns to be made, and what to say between them.
+ghost use Rattle.std.specs.Prelude.{◌≡◌, [], ◌∷◌, ◌++◌, IfOk, vec_len, MatchResult};
+ghost use Rattle.histories.specs.declared.Call.TheVariants.{Generate, Arrive, Send, Deliver, Drop, Read};
+ghost use Rattle.story.specs.Plans.{brought};
+
+use histories::{Call, Turn};
+use readings::Reading;
+use std::alloc::{AllocError, Global};
+
+// How many hosts the field has.
+pub const HOSTS: usize = 4;
+
+// How many bytes of memory the slots have together.
+pub const MEMORY: usize = 65536;
+
+// Room for any frame.
+pub(crate) const ROOM: usize = 2048;
+
+// What is said between turns.
+#[derive(Clone, Copy)]
+pub enum Remark {
+    // a heading
+    Part(&'static str),
+    // whether two turns read equal bytes
+    Compare { one: usize, other: usize },
+}
+
+// A remark, and before which turn it is made.
+#[derive(Clone, Copy)]
+pub struct Note {
+    pub at: usize,
+    pub remark: Remark,
+}
+
+// A network of how many hosts is opened, its turns in their order, and the notes in theirs: beside the turns, each with
+// its place among them, since turns are made as one slice.
+#[derive(Drop)]
+pub struct Plan<'a> {
+    pub hosts: usize,
+    pub turns: Vec<Turn<'a>>,
+    pub notes: Vec<Note>,
+}
+
+impl<'a> Plan<'a> {
+    // Only the opening is planned yet.
+    pub fn new(heap: Global, hosts: usize) -> Plan<'a>
+        ensures hosts { result.hosts ≡ hosts }
+        ensures turns { result.turns.items ≡ [] }
+        ensures notes { result.notes.items ≡ [] }
+    {
+        Plan {
+            hosts,
+            turns: Vec::new(heap),
+            notes: Vec::new(heap),
+        }
+    }
+
+    // Plans a call, brought all values and all memory; gives its number among the turns.
+    fn add(&mut self, call: Call<'a>) -> Result<usize, AllocError>
+        ensures number { IfOk result (λ n. n ≡ vec_len self.old.turns) }
+        ensures turns { MatchResult result (λ _. self.new.turns.items ≡ self.old.turns.items ++ brought call.entry ∷ []) (λ _. self.new.turns.items ≡ self.old.turns.items) }
+        ensures rest { (self.new.hosts ≡ self.old.hosts) × (self.new.notes.items ≡ self.old.notes.items) }
+    {
+        let number = self.turns.len();
+        self.turns.push(Turn {
+            values: HOSTS,
+            bytes: MEMORY,
+            call,
+        })?;
+        Ok(number)
+    }
+
+    // Plans what to say before the next turn.
+    fn say(&mut self, remark: Remark) -> Result<(), AllocError>
+        ensures { (self.new.hosts ≡ self.old.hosts) × (self.new.turns.items ≡ self.old.turns.items) }
+    {
+        let at = self.turns.len();
+        self.notes.push(Note { at, remark })?;
+        Ok(())
+    }
+
+    // A heading.
+    pub(crate) fn part(&mut self, heading: &'static str) -> Result<(), AllocError>
+        ensures { (self.new.hosts ≡ self.old.hosts) × (self.new.turns.items ≡ self.old.turns.items) }
+    {
+        self.say(Remark::Part(heading))
+    }
+
+    // Whether two turns read equal bytes is said here.
+    pub(crate) fn compare(&mut self, one: usize, other: usize) -> Result<(), AllocError>
+        ensures { (self.new.hosts ≡ self.old.hosts) × (self.new.turns.items ≡ self.old.turns.items) }
+    {
+        self.say(Remark::Compare { one, other })
+    }
+
+    // A host sees a client.
+    pub(crate) fn count(
+        &mut self,
+        node: usize,
+        tenant: u32,
+        item: u64,
+        amount: u64,
+    ) -> Result<(), AllocError>
+        ensures hosts { self.new.hosts ≡ self.old.hosts }
+        ensures turns { IfOk result (λ _. self.new.turns.items ≡ self.old.turns.items ++ brought (Generate node (record { tenant = tenant; item = item; amount = amount })) ∷ []) }
+    {
+        let reading = Reading {
+            tenant,
+            item,
+            amount,
+        };
+        self.add(Call::Generate { node, reading })?;
+        Ok(())
+    }
+
+    // Bytes from outside reach a host.
+    pub(crate) fn arrive(&mut self, node: usize, frame: &'a [u8]) -> Result<(), AllocError>
+        ensures hosts { self.new.hosts ≡ self.old.hosts }
+        ensures turns { IfOk result (λ _. self.new.turns.items ≡ self.old.turns.items ++ brought (Arrive node frame.entry) ∷ []) }
+    {
+        self.add(Call::Arrive { node, frame })?;
+        Ok(())
+    }
+
+    // A host's frame is put into a slot.
+    pub(crate) fn send(&mut self, node: usize, slot: usize) -> Result<(), AllocError>
+        ensures hosts { self.new.hosts ≡ self.old.hosts }
+        ensures turns { IfOk result (λ _. self.new.turns.items ≡ self.old.turns.items ++ brought (Send node slot) ∷ []) }
+    {
+        self.add(Call::Send { node, slot })?;
+        Ok(())
+    }
+
+    // What a slot holds reaches a host.
+    pub(crate) fn deliver(&mut self, slot: usize, node: usize) -> Result<(), AllocError>
+        ensures hosts { self.new.hosts ≡ self.old.hosts }
+        ensures turns { IfOk result (λ _. self.new.turns.items ≡ self.old.turns.items ++ brought (Deliver slot node) ∷ []) }
+    {
+        self.add(Call::Deliver { slot, node })?;
+        Ok(())
+    }
+
+    // A slot is dropped.
+    pub(crate) fn free(&mut self, slot: usize) -> Result<(), AllocError>
+        ensures hosts { self.new.hosts ≡ self.old.hosts }
+        ensures turns { IfOk result (λ _. self.new.turns.items ≡ self.old.turns.items ++ brought (Drop slot) ∷ []) }
+    {
+        self.add(Call::Drop { slot })?;
+        Ok(())
+    }
+
+    // A host is read; gives the number of the turn, for a comparison.
+    pub(crate) fn read(&mut self, node: usize) -> Result<usize, AllocError>
+        ensures hosts { self.new.hosts ≡ self.old.hosts }
+        ensures number { IfOk result (λ n. n ≡ vec_len self.old.turns) }
+        ensures turns { IfOk result (λ _. self.new.turns.items ≡ self.old.turns.items ++ brought (Read node 2048) ∷ []) }
+    {
+        self.add(Call::Read { node, room: ROOM })
+    }
+}

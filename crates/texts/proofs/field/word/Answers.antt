@@ -1,0 +1,12 @@
+use Rattle.std.proofs.Common.{rules}
+use Rattle.texts.proofs.Pairs.{hex_text-word, small_word, undecoded_word}
+use Rattle.texts.proofs.field.word.Goals as goal
+
+pub returns-then-has_small-clause-refused : goal.returns-then-has_small-clause-refused
+returns-then-has_small-clause-refused c = search (rules, small_word)
+
+pub returns-in-Ok-clause-shown : goal.returns-in-Ok-clause-shown
+returns-in-Ok-clause-shown c = search (rules, hex_text-word)
+
+pub returns-in-Err-clause-refused : goal.returns-in-Err-clause-refused
+returns-in-Err-clause-refused c = search (rules, undecoded_word)
