@@ -4,17 +4,7 @@
 
 use least::row::LeastValues;
 use std::io;
-use story::teller::{Compare, example_and_afternoon};
-
-// This program compares frames byte by byte. The other afternoon has the same lines, since each program has a must-fail
-// edit that breaks its own comparison.
-struct Bytewise;
-
-impl Compare for Bytewise {
-    fn is_equal(one: &[u8], other: &[u8]) -> bool {
-        one == other
-    }
-}
+use story::teller::{Bytewise, example_and_afternoon};
 
 fn main(rt: HostRuntime) -> io::Result<()> {
     example_and_afternoon::<LeastValues, Bytewise>(&rt)

@@ -16,7 +16,7 @@ fn bit(rank: u32) -> u32
     1 << rank
 }
 
-// Each kind has these calls of its own, in a line or two that say what differs.
+// Each kind has these calls of its own; bitmaps are no row, since all their places are in use and in no order.
 impl Synopsis for Bitmaps {
     const NUMBER: u8 = 1;
 

@@ -1,9 +1,9 @@
 -- Which answers cases have.
 use Rattle.std.specs.Prelude.{◌≡◌, ℕ, true, ◌+◌, ◌<◌, ◌≤◌, ◌⊎◌, List, [], ◌∷◌, length, codes, Option, Some, Result, Ok, Err}
 use Rattle.std.specs.Fmt.{decimal}
-use Rattle.std.specs.Int.{w64, to_be_bytes}
+use Rattle.std.specs.Option.{option_map}
 use Rattle.readings.specs.declared.Reading.{Reading}
-use Rattle.texts.specs.Texts.{hex_text}
+use Rattle.texts.specs.Texts.{hex_text, word_text}
 use Rattle.synopsis.specs.Kind.{Kind, frame_length, encode_answer, encode_after}
 use Rattle.synopsis.specs.declared.fault.DecodeFault.{DecodeFault}
 use Rattle.cases.specs.Outcomes.{outcome_extended, outcome_cut, outcome_changed, each_below}
@@ -15,10 +15,6 @@ use Rattle.cases.specs.declared.case.Case.TheVariants as asked
 use Rattle.cases.specs.declared.outcome.Outcome.TheVariants.{Refused}
 use Rattle.cases.specs.declared.written.Written.{Written}
 
--- a word of 8 bytes, as text
-abbrev pub word_text : ℕ → List ℕ
-word_text n = hex_text (to_be_bytes w64 n)
-
 -- the fields of a reading
 abbrev pub reading_fields : Reading → List (List ℕ)
 reading_fields r = codes "reading" ∷ decimal r.tenant ∷ word_text r.item ∷ word_text r.amount ∷ []
@@ -27,17 +23,18 @@ reading_fields r = codes "reading" ∷ decimal r.tenant ∷ word_text r.item ∷
 abbrev pub items_fields : ℕ → ℕ → ℕ → List (List ℕ)
 items_fields first step count = codes "items" ∷ word_text first ∷ word_text step ∷ decimal count ∷ []
 
+-- the frame of a form, as text
+abbrev pub frame_text : (k : Kind) → k.Form → List ℕ
+frame_text k x = hex_text (k.encoding x)
+
 -- the fields that write a case of a kind, with room for at most so many bytes, by the forms and the rows of its values
 module _ {S : Type 0} (k : Kind) (form : S → k.Form) (row_of : ℕ → List ℕ → Option S) (most : ℕ) where
-  abbrev pub frame_text : k.Form → List ℕ
-  frame_text x = hex_text (k.encoding x)
-
   abbrev pub Reads : List (List ℕ) → Case S → Type 0
   Reads fields asked.Kind = fields ≡ codes "kind" ∷ []
   Reads fields (asked.Value s) =
       ((r : Reading) × (fields ≡ reading_fields r) × (form s ≡ k.single r))
-      ⊎ ((x : k.Form) × (y : k.Form) × (fields ≡ codes "join" ∷ frame_text x ∷ frame_text y ∷ []) × (form s ≡ k.join x y))
-  Reads fields (asked.Figures s) = fields ≡ codes "estimate" ∷ frame_text (form s) ∷ []
+      ⊎ ((x : k.Form) × (y : k.Form) × (fields ≡ codes "join" ∷ frame_text k x ∷ frame_text k y ∷ []) × (form s ≡ k.join x y))
+  Reads fields (asked.Figures s) = fields ≡ codes "estimate" ∷ frame_text k (form s) ∷ []
   Reads fields (asked.Told s) =
       (first : ℕ) × (step : ℕ) × (count : ℕ) × (fields ≡ items_fields first step count) × (count ≤ 65536)
       × (form s ≡ items_form k first step count k.none)
@@ -47,7 +44,7 @@ module _ {S : Type 0} (k : Kind) (form : S → k.Form) (row_of : ℕ → List �
   Reads fields (asked.Changes bytes mask) =
       (fields ≡ codes "changes" ∷ hex_text bytes.items ∷ hex_text (mask ∷ []) ∷ []) × (0 < length bytes.items)
   Reads fields (asked.Encode s room) =
-      (fields ≡ codes "encode" ∷ frame_text (form s) ∷ decimal room ∷ []) × (room ≤ most)
+      (fields ≡ codes "encode" ∷ frame_text k (form s) ∷ decimal room ∷ []) × (room ≤ most)
   Reads fields (asked.Row s) =
       (count : ℕ) × (places : List ℕ) × (fields ≡ codes "row" ∷ decimal count ∷ hex_text places ∷ [])
       × (row_of count places ≡ Some s)
@@ -55,7 +52,7 @@ module _ {S : Type 0} (k : Kind) (form : S → k.Form) (row_of : ℕ → List �
 -- what is written of a form
 pub record Writes (k : Kind) (x : k.Form) (w : Written) : Type 0 where
   pub length : w.length ≡ frame_length k x
-  pub frame : w.frame.items ≡ frame_bytes k x
+  pub frame : option_map (λ v. v.items) w.frame ≡ frame_bytes k x
 
 -- what is told of bytes that are read so
 abbrev pub Tells : {F : Type 0} → (k : Kind) → Result k.Form DecodeFault → Answer F → Type 0

@@ -1,5 +1,5 @@
 -- The values that cases speak of, and what is written of them.
-use Rattle.std.specs.Prelude.{ℕ, zero, suc, ◌+◌, ◌*◌, ◌/◌, ◌%◌, ◌^◌, ◌==◌, ◌&&◌, nat_lt, nat_le, if◌then◌else◌, cond, List, [], map, length, take, drop, Option, Some, None}
+use Rattle.std.specs.Prelude.{ℕ, zero, suc, ◌+◌, ◌*◌, ◌/◌, ◌%◌, ◌^◌, ◌==◌, ◌&&◌, nat_lt, nat_le, if◌then◌else◌, cond, List, map, length, take, drop, Option, Some, None}
 use Rattle.std.specs.List.{range_with_len}
 use Rattle.records.specs.Records.{Layout}
 use Rattle.sample.specs.declared.record.SampleRecord.{SampleRecord}
@@ -16,9 +16,9 @@ items_form k item step zero form = form
 items_form k item step (suc n) form =
     items_form k ((item + step) % 2 ^ 64) step n (k.join form (k.single (bare_reading item)))
 
--- the frame of a form; no bytes where none are written
-abbrev pub frame_bytes : (k : Kind) → k.Form → List ℕ
-frame_bytes k x = cond (overlong k) [] (k.encoding x)
+-- the frame of a form, where one is written
+abbrev pub frame_bytes : (k : Kind) → k.Form → Option (List ℕ)
+frame_bytes k x = cond (overlong k) None (Some (k.encoding x))
 
 -- the byte at a place of an untouched room
 abbrev pub room_byte : ℕ → ℕ

@@ -2,7 +2,7 @@
 ghost use Rattle.std.specs.Prelude.{◌≡◌, ℕ, ◌<◌, List, [], ◌∷◌, Some, length, map, codes, IfOk};
 ghost use Rattle.std.specs.Fmt.{decimal};
 ghost use Rattle.texts.specs.Texts.{hex_text};
-ghost use Rattle.cases.specs.Cases.{Answers, Reads, Tells, reading_fields};
+ghost use Rattle.cases.specs.Cases.{Answers, Reads, Tells, frame_text, reading_fields};
 
 use crate::answer::Answer;
 use crate::encoded::Encoded;
@@ -18,8 +18,6 @@ use texts::fault::Fault;
 use texts::field::{bytes, number, up_to, word};
 
 const MOST_ITEMS: u64 = 65_536;
-
-const MOST_TENANT: u64 = 0xFFFF_FFFF;
 
 #[derive(Drop)]
 pub enum Case<S> {
@@ -45,7 +43,7 @@ pub enum Case<S> {
 
 // What a frame holds.
 fn value<S: Synopsis>(heap: Global, text: &str) -> Result<S, Fault>
-    ensures { IfOk result (λ s. hex_text (S.Synopsis.kind.encoding (S.Synopsis.form s)) ≡ text.now) }
+    ensures { IfOk result (λ s. frame_text S.Synopsis.kind (S.Synopsis.form s) ≡ text.now) }
 {
     let found = bytes(heap, text)?;
     let mut value = S::empty();
@@ -57,7 +55,7 @@ fn reading(tenant: &str, item: &str, amount: &str) -> Result<Reading, Fault>
     ensures { IfOk result (λ r. reading_fields r ≡ codes "reading" ∷ tenant.now ∷ item.now ∷ amount.now ∷ []) }
 {
     Ok(Reading {
-        tenant: up_to(MOST_TENANT, tenant)? as u32,
+        tenant: u32::try_from(number(tenant)?)?,
         item: word(item)?,
         amount: word(amount)?,
     })
@@ -79,7 +77,7 @@ fn changes(heap: Global, text: &str, mask: &str) -> Result<(Vec<u8>, u8), Fault>
 fn row<S: Subject>(heap: Global, count: &str, places: &str) -> Result<S, Fault>
     ensures { IfOk result (λ s. (n : ℕ) × (bytes : List ℕ) × (decimal n ≡ count.now) × (hex_text bytes ≡ places.now) × (S.Subject.row_of n bytes ≡ Some s)) }
 {
-    let count = number(count)? as usize;
+    let count = usize::try_from(number(count)?)?;
     let places = bytes(heap, places)?;
     S::row(count, places.as_slice()).ok_or(Fault::Form)
 }
@@ -113,7 +111,7 @@ impl<S: Subject> Case<S> {
             ["estimate", text] => Ok(Case::Figures(value(heap, text)?)),
             ["encode", text, room] => Ok(Case::Encode {
                 value: value(heap, text)?,
-                room: up_to(most_room, room)? as usize,
+                room: usize::try_from(up_to(most_room, room)?)?,
             }),
             ["row", count, places] => Ok(Case::Row(row(heap, count, places)?)),
             _ => Err(Fault::Form),

@@ -13,7 +13,8 @@ use texts::shown::Hex;
 fn room_byte(place: usize) -> u8
     ensures { result ≡ room_byte place }
 {
-    ((7 * (place % 256) + 165) % 256) as u8
+    let [low, ..] = place.to_le_bytes();
+    low.wrapping_mul(7).wrapping_add(165)
 }
 
 // A room whose bytes tell each place from the next.

@@ -2,14 +2,11 @@
 ghost use Rattle.std.specs.Prelude.{◌≡◌, map, IfOk, IfErr};
 ghost use Rattle.cases.specs.Hashes.{Reads, Answers, outputs};
 
-use readings::{mark, mix};
+use readings::{mark, mix, output};
 use std::alloc::{AllocError, Global};
 use std::fmt;
 use texts::fault::Fault;
 use texts::field::{number, up_to, word};
-
-// The constant that the generator adds to its state.
-const STEP: u64 = 0x9E37_79B9_7F4A_7C15;
 
 const MOST_OUTPUTS: u64 = 64;
 
@@ -35,16 +32,14 @@ pub enum HashAnswer {
 fn outputs(heap: Global, seed: u64, count: u64) -> Result<Vec<u64>, AllocError>
     ensures { IfOk result (λ v. v.items ≡ outputs seed count) }
 {
-    (0..count)
-        .map(|i| mix(seed.wrapping_add(i.wrapping_mul(STEP))))
-        .collect(heap)
+    (0..count).map(|i| output(seed, i)).collect(heap)
 }
 
 impl HashCase {
     // The case that the fields of a line write.
     pub fn read(fields: &[&str]) -> Result<HashCase, Fault>
         ensures read { IfOk result (Reads (map (λ f. f.now) fields.now)) }
-        ensures form { IfErr result (λ e. e ≡ Fault.Form) }
+        ensures refused { IfErr result (λ e. (e ≡ Fault.Form) × ((asked : HashCase) → ¬ (Reads (map (λ f. f.now) fields.now) asked))) }
     {
         match fields {
             ["item", item] => Ok(HashCase::Item(word(item)?)),

@@ -134,12 +134,7 @@ impl Subject for Sample {
     }
 
     fn row(count: usize, bytes: &[u8]) -> Option<Sample> {
-        let unused = SampleRecord {
-            item: 0,
-            tenant: 0,
-            amount: 0,
-        };
-        let places = places::<SampleRecord, 20, 32>(bytes, unused)?;
+        let places = places::<SampleRecord, 20, 32>(bytes, SampleRecord::default())?;
         Some(Sample {
             row: Row { count, places },
         })
@@ -180,6 +175,7 @@ pub fn full(last: u64) -> LeastValues
     ensures last { slice_index result.row.places 63 ≡ last }
 {
     let mut places = [0; 64];
+    // A cast: `u64` has no `From<usize>`, and a `zip` with numbers leaves the places unknown to a proof.
     for (i, place) in places.iter_mut().enumerate() {
         *place = i as u64;
     }

@@ -9,7 +9,5 @@ pub mod kinds;
 pub mod outcome;
 pub mod subject;
 pub mod tally;
-#[cfg(test)]
-mod tests;
 pub mod value;
 pub mod written;

@@ -9,11 +9,12 @@ use std::alloc::{AllocError, Global};
 use std::fmt;
 use synopsis::fault::DecodeFault;
 
+// No Option of a Result: that could not have a Display of its own, and its None would not say what the places did.
 #[derive(Clone, Copy, PartialEq, Eq)]
 pub enum Outcome {
     // the length of the frame that is written again, and whether it is the very bytes: a flag, since both are told
     Accepted { length: usize, same: bool },
-    // why, and whether the place is as it was
+    // why, and whether the place is as it was: a flag, since both are told
     Refused { fault: DecodeFault, kept: bool },
     // not the same at every place
     Apart,
@@ -46,7 +47,7 @@ fn at_place<S: Subject>(heap: Global, before: &S, bytes: &[u8]) -> Result<Outcom
             let again = Written::of(heap, &place)?;
             Ok(Outcome::Accepted {
                 length: again.length,
-                same: again.frame.as_slice() == bytes,
+                same: again.frame.is_some_and(|frame| frame.as_slice() == bytes),
             })
         }
         Err(fault) => Ok(Outcome::Refused {

@@ -12,6 +12,7 @@ pub struct Tally {
     pub outcomes: Vec<Outcome>,
 }
 
+// Loops that push: tried as a chain with `try_collect`, and of the items that it gives the proof did not close.
 #[tactic(auto, using(crate::proofs::Tallies::none_below, crate::proofs::Tallies::one_more, crate::proofs::Tallies::every_byte))]
 impl Tally {
     // Of the bytes with one more, whichever it is.

@@ -33,11 +33,7 @@ pub(crate) fn two_items<S: Synopsis>() -> S {
 pub(crate) fn items<S: Synopsis>(first: u64, step: u64, count: u64) -> S
     ensures { S.Synopsis.form result ≡ items_form S.Synopsis.kind first step count S.Synopsis.kind.none }
 {
-    let mut value = S::empty();
-    let mut item = first;
-    for _ in 0..count {
-        value.fuse(&single(item));
-        item = item.wrapping_add(step);
-    }
-    value
+    (0..count).fold(S::empty(), |value, i| {
+        joined(value, &single(first.wrapping_add(i.wrapping_mul(step))))
+    })
 }

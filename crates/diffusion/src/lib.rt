@@ -5,3 +5,4 @@ pub mod answer;
 pub mod fault;
 pub mod run;
 pub mod turn;
+pub mod values;

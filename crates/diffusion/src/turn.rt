@@ -6,10 +6,7 @@ use crate::answer::Answer;
 use histories::{Call, Turn};
 use network::table::Network;
 use std::alloc::{AllocError, Global};
-use synopsis::kind::Synopsis;
-
-// How many bytes a frame has at most.
-const FRAME: usize = 2048;
+use synopsis::kind::{LONGEST, Synopsis};
 
 // The network, the values and the memory go side by side from call to call, and not as one struct of three references: a
 // turn would lend front parts of such a struct's fields as a second one, which gets no proof, and each contract would have
@@ -49,8 +46,9 @@ fn read_into<S: Synopsis>(
 ) -> Result<Answer, AllocError>
     ensures { IfOk result (λ a. tells a ≡ call_tells S.Synopsis.kind (state_of S.Synopsis.kind S.Synopsis.form network.now values.now memory.now) (length values.now) (length memory.now) (Read node room)) }
 {
-    let mut out = [0; FRAME];
-    let part = &mut out[0..room.min(FRAME)];
+    let mut out = [0; LONGEST];
+    let part = &mut out[0..room.min(LONGEST)];
+    // A match: a refusal goes into the answer, and want of memory out of the call, and `?` hands on but one of the two.
     match network.read(values, memory, node, part) {
         Ok(length) => Ok(Ok(Some(Vec::from_slice(heap, &part[0..length])?))),
         Err(fault) => Ok(Err(fault)),

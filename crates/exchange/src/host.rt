@@ -2,15 +2,16 @@ ghost use Rattle.std.specs.Prelude.{◌≡◌, IfOk};
 ghost use Rattle.least.specs.Least.{least_kind, least_form};
 ghost use Rattle.exchange.specs.Hosts.{after_frame};
 
+use arrayvec::ArrayVec;
+use least::kind::GREATEST;
 use least::row::LeastValues;
 use readings::Reading;
-use std::alloc::{AllocError, Global};
 use std::io;
 use synopsis::kind::Synopsis;
 use texts::shown::Pairs;
 
-// How many bytes a frame of least values has at most.
-const ROOM: usize = 516;
+// A frame, in fixed memory with a length of its own.
+pub(crate) type Frame = ArrayVec<u8, GREATEST>;
 
 // One host of the rack: a name and what it has counted.
 #[derive(Clone, Copy)]
@@ -40,19 +41,21 @@ impl Host {
     }
 
     // The frame of what is counted.
-    pub(crate) fn frame(&self, heap: Global) -> Result<Vec<u8>, AllocError>
-        ensures { IfOk result (λ v. v.items ≡ least_kind.encoding (least_form self.now.value)) }
+    pub(crate) fn frame(&self) -> Frame
+        ensures { result.items ≡ least_kind.encoding (least_form self.now.value) }
     {
-        let mut bytes = [0; ROOM];
+        let mut bytes = [0; GREATEST];
         let length = self.value.encode(&mut bytes).unwrap();
-        Vec::from_slice(heap, &bytes[..length])
+        let mut frame = Frame::from(bytes);
+        frame.truncate(length);
+        frame
     }
 
     // Puts the frame on the wire.
-    pub(crate) fn send(&self, rt: &(impl Print + AllocGlobal)) -> io::Result<Vec<u8>>
-        ensures { IfOk result (λ v. v.items ≡ least_kind.encoding (least_form self.now.value)) }
+    pub(crate) fn send(&self, rt: &impl Print) -> io::Result<Frame>
+        ensures { IfOk result (λ frame. frame.items ≡ least_kind.encoding (least_form self.now.value)) }
     {
-        let frame = self.frame(rt.alloc())?;
+        let frame = self.frame();
         let name = self.name;
         println!(rt; "   {name} sends {}", Pairs(&frame))?;
         Ok(frame)

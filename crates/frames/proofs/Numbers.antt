@@ -1,5 +1,5 @@
 -- Bytes of a number read back as the number, and the other way round.
-use Rattle.std.proofs.Common.{◌≡◌, ℕ, zero, suc, ◌+◌, ◌-◌, ◌*◌, ◌/◌, ◌%◌, ◌^◌, ◌<◌, ◌≤◌, List, [], ◌∷◌, length, drop, set, sym, refl, ap, ◌∙◌, mod-eq_of_lt, mul_comm, div-lt_iff_lt-mul, pow-suc, div-add-mod', div-one, arith}
+use Rattle.std.proofs.Common.{◌≡◌, ℕ, zero, suc, ◌+◌, ◌-◌, ◌*◌, ◌/◌, ◌%◌, ◌^◌, ◌<◌, ◌≤◌, List, [], ◌∷◌, length, drop, set, sym, refl, ap, ◌∙◌, mod-eq_of_lt, pow-suc, div-add-mod', div-one, arith}
 use native.Mathlib.Nat.{div-div-eq-div-mul, pow-le-pow_right}
 use Rattle.std.proofs.lemmas.List.{drop-set}
 use Rattle.std.specs.List.{AllByRecursion}
@@ -45,18 +45,6 @@ in_from_bytes (d ∷ ds) h =
     let head : number_from_digits_after 256 (0 * 256 + d) ds / 256 ^ length ds ≡ d = after_div ds (0 * 256 + d) h.1 ∙ e in
     let tail = low_after ds (0 * 256 + d) h.1 in
     cc
-
--- a number that fits has no more than its lowest bytes
-pub low_is_in : (w n : ℕ) → n < 256 ^ suc w → low_bytes (suc w) n ≡ in_bytes (suc w) n
-low_is_in w n h =
-    let q : n < 256 ^ w * 256 = rw (pow-suc 256 w) at h in
-    let lt : n / 256 ^ w < 256 = (div-lt_iff_lt-mul (pow_256 w)).1 (rw (mul_comm (256 ^ w) 256) at q) in
-    let e : n / 256 ^ w % 256 ≡ n / 256 ^ w = mod-eq_of_lt lt in
-    ap (λ (b : ℕ). b ∷ low_bytes w n) e
-  where
-    pow_256 : (w : ℕ) → zero < 256 ^ w
-    pow_256 zero = omega arith
-    pow_256 (suc w) = let p = pow_256 w in rw (pow-suc 256 w) (omega arith)
 
 pub length_low : (w n : ℕ) → length (low_bytes w n) ≡ w
 length_low zero n = refl

@@ -4,15 +4,12 @@
 mod store;
 
 use lists::answer::told;
-use std::io::{BufRead, BufReader};
+use std::io;
 use store::Store;
+use texts::line::answer_lines;
 
-fn main(rt: HostRuntime) -> anyhow::Result<()> {
+fn main(rt: HostRuntime) -> io::Result<()> {
     let heap = rt.alloc();
     let mut store = Store::new(heap)?;
-    for line in BufReader::new(heap, rt.stdin())?.lines(heap) {
-        let text = line?;
-        rt.println(told(heap, store.outcome(text.as_str()))?)?;
-    }
-    Ok(())
+    answer_lines(&rt, |line| told(heap, store.outcome(line)))
 }

@@ -1,12 +1,12 @@
 // What the networks of all lines are lent.
 use bitmaps::maps::Bitmaps;
+use diffusion::values::empty_values;
 use least::row::LeastValues;
 use lists::answer::{MEMORY, VALUES, answer};
 use lists::outcome::Outcome;
 use pile::{FourSamples, StandardPile};
 use sample::row::Sample;
 use std::alloc::{AllocError, Global};
-use synopsis::kind::Synopsis;
 use texts::fault::Fault;
 
 // Values of each kind, and memory: a list opens its network on what the lists before left.
@@ -21,23 +21,15 @@ pub struct Store {
     memory: Vec<u8>,
 }
 
-fn values<S: Synopsis>(heap: Global) -> Result<Vec<S>, AllocError> {
-    let mut values = Vec::with_capacity(heap, VALUES)?;
-    for _ in 0..VALUES {
-        values.push(S::empty())?;
-    }
-    Ok(values)
-}
-
 impl Store {
     pub(crate) fn new(heap: Global) -> Result<Store, AllocError> {
         Ok(Store {
             heap,
-            maps: values(heap)?,
-            least: values(heap)?,
-            samples: values(heap)?,
-            piles: values(heap)?,
-            overlong: values(heap)?,
+            maps: empty_values(heap, VALUES)?,
+            least: empty_values(heap, VALUES)?,
+            samples: empty_values(heap, VALUES)?,
+            piles: empty_values(heap, VALUES)?,
+            overlong: empty_values(heap, VALUES)?,
             memory: vec![in heap; 0; MEMORY]?,
         })
     }

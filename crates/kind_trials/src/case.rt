@@ -5,23 +5,21 @@ use cases::value::single;
 use readings::Reading;
 use std::alloc::Global;
 use texts::fault::Fault;
-use texts::field::{up_to, word};
+use texts::field::{number, up_to, word};
 
 const MOST_TENANT_READINGS: u64 = 4096;
 
 const MOST_ROOM: u64 = 2100;
 
-const MOST_TENANT: u64 = 0xFFFF_FFFF;
-
 // Many readings of so many tenants, two of them of each item, joined one after another.
-fn tenants<S: Subject>(count: u64, modulus: u64, first: u64, step: u64) -> Result<S, Fault> {
+fn tenants<S: Subject>(count: u64, modulus: u32, first: u64, step: u64) -> Result<S, Fault> {
     if modulus == 0 {
         return Err(Fault::Form);
     }
     let mut value = S::empty();
     for i in 0..count {
         let reading = Reading {
-            tenant: (i % modulus % 0x1_0000_0000) as u32,
+            tenant: u32::try_from(i % u64::from(modulus))?,
             item: (i / 2).wrapping_mul(step).wrapping_add(first),
             amount: i.wrapping_mul(i) % 7,
         };
@@ -34,11 +32,11 @@ fn read<S: Subject>(heap: Global, fields: &[&str]) -> Result<Case<S>, Fault> {
     match fields {
         ["room", size] => Ok(Case::Encode {
             value: single(0),
-            room: up_to(MOST_ROOM, size)? as usize,
+            room: usize::try_from(up_to(MOST_ROOM, size)?)?,
         }),
         ["tenants", count, modulus, first, step] => Ok(Case::Told(tenants(
             up_to(MOST_TENANT_READINGS, count)?,
-            up_to(MOST_TENANT, modulus)?,
+            u32::try_from(number(modulus)?)?,
             word(first)?,
             word(step)?,
         )?)),

@@ -12,12 +12,10 @@ use least::row::LeastValues;
 use pile::{FourSamples, StandardPile};
 use sample::row::Sample;
 use std::alloc::Global;
-use std::io::{BufRead, BufReader};
+use std::io;
 use texts::fault::Fault;
-use texts::field::{up_to, word};
-use texts::line::answered;
-
-const MOST_MAP: u64 = 0xFFFF_FFFF;
+use texts::field::{number, word};
+use texts::line::{answer_lines, answered};
 
 // The answer to a line about a kind.
 fn of_kind(heap: Global, letter: &str, fields: &[&str]) -> Result<String, Fault> {
@@ -40,19 +38,14 @@ fn answer(heap: Global, line: &str) -> Result<String, Fault> {
         ["item" | "mark" | "outputs", ..] => {
             Ok(HashCase::read(fields)?.answer(heap)?.to_string(heap)?)
         }
-        ["lowest", map] => Ok(lowest_zero(up_to(MOST_MAP, map)? as u32).to_string(heap)?),
+        ["lowest", map] => Ok(lowest_zero(u32::try_from(number(map)?)?).to_string(heap)?),
         ["v", "full", last] => Ok(full(word(last)?).estimate().to_string(heap)?),
         [letter, rest @ ..] => of_kind(heap, letter, rest),
         _ => Err(Fault::Form),
     }
 }
 
-// The loop over lines stands in each such program: shared, it would ask that a closure may be called.
-fn main(rt: HostRuntime) -> anyhow::Result<()> {
+fn main(rt: HostRuntime) -> io::Result<()> {
     let heap = rt.alloc();
-    for line in BufReader::new(heap, rt.stdin())?.lines(heap) {
-        let text = line?;
-        rt.println(answered(heap, answer(heap, text.as_str()))?)?;
-    }
-    Ok(())
+    answer_lines(&rt, |line| answered(heap, answer(heap, line)))
 }

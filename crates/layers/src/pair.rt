@@ -7,18 +7,15 @@ ghost use Rattle.layers.specs.PairsLemmas.{pair_laws};
 use frames::header::{Header, header_bytes, read_header};
 use readings::Reading;
 use synopsis::fault::{DecodeFault, EncodeFault, Reason};
-use synopsis::kind::Synopsis;
+use synopsis::kind::{LONGEST, Synopsis};
 
 const NUMBER: u8 = 5;
-
-// The greatest length of a kind that is not overlong.
-const LONGEST: usize = 2048;
 
 // Where the first side begins: after the header and the offset of the second side.
 const FIRST: usize = 6;
 
 // Two synopses, side by side.
-#[derive(Clone, PartialEq, Eq, Drop)]
+#[derive(Clone, PartialEq, Eq, Debug, Drop)]
 pub struct Pair<A, B> {
     pub first: A,
     pub second: B,
@@ -30,14 +27,14 @@ fn second_offset(frame: &[u8]) -> Result<usize, DecodeFault>
     ensures within { IfOk result (λ at. (10 ≤ at) × (at + 4 ≤ length frame.now)) }
 {
     let header = read_header(frame, NUMBER, 2, 2)?;
-    if header.end as usize != frame.len() {
+    if usize::from(header.end) != frame.len() {
         return Err(DecodeFault::new(Reason::End, 2, NUMBER));
     }
     let misplaced = DecodeFault::new(Reason::Offset, 4, NUMBER);
     let &[_, _, _, _, high, low, ..] = frame else {
         return Err(misplaced);
     };
-    let offset = u16::from_be_bytes([high, low]) as usize;
+    let offset = usize::from(u16::from_be_bytes([high, low]));
     if offset < FIRST + 4 || offset > frame.len() - 4 {
         return Err(misplaced);
     }
@@ -118,6 +115,7 @@ impl<A: Synopsis, B: Synopsis> Synopsis for Pair<A, B> {
         if out.len() < end {
             return Err(EncodeFault::Room);
         }
+        // By `as`: both are at most 2,048 here, and `try_from` would answer a refusal that never comes.
         out[0..FIRST].copy_from_slice(&head_bytes(offset as u16, end as u16));
         self.first.encode(&mut out[FIRST..offset])?;
         self.second.encode(&mut out[offset..end])?;

@@ -1,9 +1,9 @@
 -- Least values: the kind with number 2, whose forms are runs of at most 64 hash values.
-use Rattle.std.specs.Prelude.{ℕ, ◌+◌, ◌*◌, ◌/◌, ◌^◌, Bool, cond, List, length, take, ◌==◌, nat_lt, slice_index}
+use Rattle.std.specs.Prelude.{ℕ, ◌+◌, ◌*◌, ◌/◌, ◌^◌, Bool, cond, List, length, ◌==◌, nat_lt, slice_index}
 use Rattle.readings.specs.Readings.{hash_of}
 use Rattle.synopsis.specs.Kind.{Kind}
 use Rattle.runs.specs.Order.{by_size}
-use Rattle.runs.specs.Runs.{Run, as_run, is_run_row, row_items}
+use Rattle.runs.specs.Runs.{Run, keeps, counts, form_of}
 use Rattle.records.specs.Records.{number_layout}
 use Rattle.records.specs.RunKind.{run_kind}
 use Rattle.least.specs.declared.row.LeastValues.{LeastValues}
@@ -13,7 +13,7 @@ least_kind = run_kind 2 64 number_layout by_size hash_of
 
 -- the values that a row counts
 abbrev pub counted : LeastValues → List ℕ
-counted row = take row.row.count row.row.places
+counted row = counts row.row
 
 -- an unused place holds zero
 abbrev pub unused : ℕ → Bool
@@ -21,11 +21,11 @@ unused x = x == 0
 
 -- the check of a plain row: each of its values is less than the next, and zeros stand behind them
 abbrev pub row_kept : LeastValues → Bool
-row_kept row = is_run_row by_size unused row.row.count row.row.places
+row_kept row = keeps by_size unused row.row
 
 -- what a plain row stands for: the run of its values, or the empty one where it fails the check
 abbrev pub least_form : LeastValues → Run by_size 64
-least_form row = as_run by_size 64 (row_items by_size unused row.row.count row.row.places)
+least_form row = form_of by_size unused row.row
 
 -- how many different readings a run tells of: its length, and where it is full 63 * 2^32 over the upper half of its
 -- last value and one

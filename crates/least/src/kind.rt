@@ -4,10 +4,13 @@ ghost use Rattle.least.specs.Forms.{least_laws};
 
 use crate::row::{LeastRun, LeastValues};
 use readings::Reading;
-use records::frame::{decode_run, encode_run};
+use records::frame::{decode_row, encode_run, run_length};
 use runs::row::Row;
 use synopsis::fault::{DecodeFault, EncodeFault};
 use synopsis::kind::Synopsis;
+
+// How many bytes a frame of least values has at most.
+pub const GREATEST: usize = 516;
 
 impl LeastValues {
     // How many different readings the values tell of.
@@ -23,8 +26,8 @@ impl LeastValues {
     }
 }
 
-// Each kind has these calls of its own, in a line or two that say what differs: an impl for every row at once would need a
-// type of our own for hash values, since an interface of another crate can't be had for a type of a third.
+// Each kind has these calls of its own, a line or two for each: an impl for every row at once would owe, at each call of a
+// Run, that this has fewer than 2^63 bytes, of which a proof knows nothing for a row of any element.
 impl Synopsis for LeastValues {
     const NUMBER: u8 = 2;
 
@@ -39,7 +42,7 @@ impl Synopsis for LeastValues {
     ghost lawful = { least_laws };
 
     fn greatest_length() -> usize {
-        516
+        GREATEST
     }
 
     fn empty() -> Self {
@@ -53,24 +56,19 @@ impl Synopsis for LeastValues {
     }
 
     fn fuse(&mut self, other: &Self) {
-        let joined = LeastRun::of(&self.row).joined(&LeastRun::of(&other.row));
-        self.row = joined.row;
+        self.row = LeastRun::of_both(&self.row, &other.row).row;
     }
 
     fn length(&self) -> usize {
-        let run = LeastRun::of(&self.row);
-        4 + 8 * run.as_slice().len()
+        run_length(LeastRun::of(&self.row).as_slice())
     }
 
     fn encode(&self, out: &mut [u8]) -> Result<usize, EncodeFault> {
-        let run = LeastRun::of(&self.row);
-        encode_run(Self::NUMBER, run.as_slice(), out)
+        encode_run(Self::NUMBER, LeastRun::of(&self.row).as_slice(), out)
     }
 
     fn decode(&mut self, frame: &[u8]) -> Result<(), DecodeFault> {
-        let mut places = [0; 64];
-        let count = decode_run(Self::NUMBER, frame, &mut places)?;
-        self.row = Row { count, places };
+        self.row = decode_row(Self::NUMBER, frame)?;
         Ok(())
     }
 }

@@ -1,26 +1,57 @@
 -- One plan more.
-use Rattle.std.proofs.Common.{◌≡◌, ℕ, ◌+◌, ◌<◌, List, [], ◌∷◌, ◌++◌, map, length, get_or, take, sym, ap, ◌∙◌, subst}
-use Rattle.std.proofs.lemmas.List.{take_more, map_push}
+use Rattle.std.proofs.Common.{◌≡◌, ℕ, zero, suc, ◌+◌, ◌<◌, ◌≤◌, true, Option, None, Some, Ok, Result, IfOk, IfSome, Vec, arith, List, [], ◌∷◌, ◌++◌, map, length, get_or, take, sym, ap, ◌∙◌, subst}
+use Rattle.std.proofs.lemmas.List.{take_more, take_all, map_push, length-append}
+use Rattle.std.proofs.lemmas.Result.{IfOk-weaker}
+use Rattle.std.specs.Vec.{vec_len, vec_capacity}
+use Rattle.std.specs.Option.{IsSomeRelated}
+use Rattle.std.specs.Iterator.Runs.{WholeRun, EachRunFrom, IsTryCollectRun}
 use Rattle.synopsis.specs.Kind.{Kind}
 use Rattle.histories.specs.declared.Turn.{Turn}
 use Rattle.diffusion.specs.Turns.{Told, TurnAnswer, tells, State}
-use Rattle.lists.specs.declared.plan.OwnedCall.{OwnedCall}
-use Rattle.lists.specs.declared.plan.Step.{Step}
-use Rattle.lists.specs.declared.plan.Step.TheVariants as step
 use Rattle.lists.specs.declared.plan.Plan.{Plan}
-use Rattle.lists.specs.Plans.{IsTurn, Plans, Written, Makes, Stepped}
+use Rattle.lists.specs.Plans.{Plans, Written, Makes, Stepped}
 use Rattle.lists.specs.Plans as plans
 
 module _ (ps : List Plan) (i : ℕ) (p : Plan) (lt : i < length ps) (read : p ≡ get_or ps i p) where
   front : take i ps ++ p ∷ [] ≡ take (i + 1) ps
   front = ap (λ (q : Plan). take i ps ++ q ∷ []) read ∙ sym (take_more ps i p lt)
 
-  pub written_more : (c : OwnedCall) (ts ts' : List Turn) (t : Turn) → p.step ≡ step.Call c → IsTurn p.front c t → Written (take i ps) ts → ts' ≡ ts ++ t ∷ [] → Written (take (i + 1) ps) ts'
-  written_more c ts ts' t is turn w pushed =
-      let planned : Plans p.front p.step t = subst (λ (s : Step). Plans p.front s t) (sym is) turn in
-      subst (λ (l : List Plan). Written l ts') front (subst (Written (take i ps ++ p ∷ [])) (sym pushed) (plans.Written.more w p t planned))
-
   pub stepped_more : (k : Kind) (answers answers' : List TurnAnswer) (a : TurnAnswer) (st before after : State k) → Stepped k (take i ps) (map tells answers) st before → Makes k p.front p.step before (tells a) after → answers' ≡ answers ++ a ∷ [] → Stepped k (take (i + 1) ps) (map tells answers') st after
   stepped_more k answers answers' a st before after s makes pushed =
       let told : map tells answers ++ tells a ∷ [] ≡ map tells answers' = sym (map_push tells answers a) ∙ sym (ap (map tells) pushed) in
       subst (λ (l : List Plan). Stepped k l (map tells answers') st after) front (subst (λ (l : List Told). Stepped k (take i ps ++ p ∷ []) l st after) told (plans.Stepped.more s p (tells a) makes))
+
+-- of lists of equal length, each turn the one that its plan is
+module _ (ps : List Plan) (ts : List Turn) (long : length ts ≡ length ps) (each : (k : ℕ) (p : Plan) (t : Turn) → k < length ps → Plans (get_or ps k p).front (get_or ps k p).step (get_or ts k t)) (p : Plan) (t : Turn) where
+  written_to : (n : ℕ) → n ≤ length ps → Written (take n ps) (take n ts)
+  written_to zero le = plans.Written.none
+  written_to (suc n) le =
+      let more : Written (take n ps ++ get_or ps n p ∷ []) (take n ts ++ get_or ts n t ∷ []) = plans.Written.more (written_to n (omega arith)) (get_or ps n p) (get_or ts n t) (each n p t (omega arith)) in
+      let one : n + 1 ≡ suc n = omega arith in
+      subst (λ (m : ℕ). Written (take m ps) (take m ts)) one (subst (λ (l : List Plan). Written l (take (n + 1) ts)) (sym (take_more ps n p (omega arith))) (subst (Written (take n ps ++ get_or ps n p ∷ [])) (sym (take_more ts n t (omega arith))) more))
+
+pub written_all : (ps : List Plan) (ts : List Turn) → (length ts ≡ length ps) × ((k : ℕ) (p : Plan) (t : Turn) → k < length ps → Plans (get_or ps k p).front (get_or ps k p).step (get_or ts k t)) → Written ps ts
+written_all [] [] h = plans.Written.none
+written_all [] (t ∷ ts) h = absurd (omega (arith, h.0))
+written_all (p ∷ ps) [] h = absurd (omega (arith, h.0))
+written_all (p ∷ ps) (t ∷ ts) h =
+    let pts = p ∷ ps in
+    let tts = t ∷ ts in
+    subst (λ (l : List Plan). Written l tts) (take_all (length pts) pts (omega arith)) (subst (Written (take (length pts) pts)) (ap (λ (n : ℕ). take n tts) (sym h.0) ∙ take_all (length tts) tts (omega arith)) (written_to pts tts h.0 h.1 p t (length pts) (omega arith)))
+
+some_ok : {Y E : Type 0} (o : Option (Result Y E)) (y : Y) (Q : Y → Type 0) → IsSomeRelated (λ (a : Result Y E) (b : Y). Ok b ≡ a) o y → IfSome o (λ (a : Result Y E). IfOk a Q) → Q y
+some_ok None y Q none q = absurd none
+some_ok {Y} {E} (Some a) y Q is q = subst (λ (b : Result Y E). IfOk b Q) (sym is) q
+
+-- what a chain collects, where it goes over the list
+module _ {S X Y E Z : Type 0} {steps : S → Option (Result Y E) → S → Type 0} {s : S} (r : Result (Vec Y Z) E) (xs : List X) (R : X → Y → Type 0) where
+  pub try_collected : IfOk r (λ v. WholeRun steps s (λ p. IsTryCollectRun p (λ a b. b ≡ a) (λ ys w. (w.items ≡ ys) × (vec_len w ≡ length ys)) (λ u ys w. (w.items ≡ u.items ++ ys) × (vec_len w ≡ vec_len u + length ys) × (vec_capacity u ≤ vec_capacity w)) v)) → EachRunFrom steps s (λ p. (p.whole ≡ true → p.len ≡ length xs) × ((k : ℕ) (x : X) → k < p.len → IfSome (p.at k) (λ a. IfOk a (R (get_or xs k x))))) → IfOk r (λ v. (length v.items ≡ length xs) × ((k : ℕ) (x : X) (y : Y) → k < length xs → R (get_or xs k x) (get_or v.items k y)))
+  try_collected runs each = IfOk-weaker r _ _ (λ v h.
+      let got = h.3 (λ ys u y w c e. (e.0 ∙ ap (λ (l : List Y). l ++ y ∷ []) c.0, e.1 ∙ ap (λ (n : ℕ). n + 1) c.1 ∙ sym (length-append ys (y ∷ [])))) in
+      let e = each h.0 h.0.seen h.1 in
+      let len : h.0.len ≡ length xs = e.0 h.2 in (
+        ap length got.1.0 ∙ got.2 ∙ len,
+        λ k x y lt.
+            let below : k < h.0.len = subst (λ (n : ℕ). k < n) (sym len) lt in
+            subst (λ (l : List Y). R (get_or xs k x) (get_or l k y)) (sym got.1.0) (some_ok (h.0.at k) (get_or got.0 k y) (R (get_or xs k x)) (got.3 k y below) (e.1 k x below)),
+      )) runs

@@ -1,2 +1,3 @@
 pub mod Plans
 pub mod Outcomes
+pub mod Texts

@@ -36,8 +36,8 @@ module _ (k : Kind) where
 
   -- what becomes of a list whose turns are made by one call, with so many values and bytes
   abbrev pub Whole : (nodes values bytes : ℕ) → List Plan → Outcome → Type 0
-  Whole nodes values bytes list (outcome.Unopened e) = open_answer k nodes values bytes ≡ Err e
-  Whole nodes values bytes list (outcome.Run answers) = Ran nodes list (map tells answers.items)
+  Whole nodes values bytes list (outcome.Run (Ok answers)) = Ran nodes list (map tells answers.items)
+  Whole nodes values bytes list (outcome.Run (Err e)) = open_answer k nodes values bytes ≡ Err e
   Whole nodes values bytes list _ = ⊥
 
   -- of one whose steps are made one by one

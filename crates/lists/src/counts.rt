@@ -1,14 +1,19 @@
 // What many turns came to.
+ghost use Rattle.std.specs.Prelude.{Some};
+ghost use Rattle.lists.specs.Texts.{counts_text};
+
 use diffusion::answer::Answer;
 use std::fmt;
 
-// One more than the greatest number of a refusal.
-const NUMBERS: usize = 15;
+// The greatest number of a refusal; the least is 1.
+const NUMBERS: usize = 14;
 
 #[derive(Clone, Copy)]
 pub struct Counts {
-    // how many calls were accepted, and then how many were refused with each number
-    by_number: [u64; NUMBERS],
+    // how many calls were accepted
+    accepted: u64,
+    // how many were refused with each number
+    refused: [u64; NUMBERS],
     // the sum of all bytes that were read
     sum: u64,
 }
@@ -16,35 +21,38 @@ pub struct Counts {
 impl Counts {
     pub(crate) fn new() -> Counts {
         Counts {
-            by_number: [0; NUMBERS],
+            accepted: 0,
+            refused: [0; NUMBERS],
             sum: 0,
-        }
-    }
-
-    fn count(&mut self, number: u8) {
-        if let Some(count) = self.by_number.get_mut(usize::from(number)) {
-            *count = count.saturating_add(1);
         }
     }
 
     pub(crate) fn add(&mut self, answer: &Answer) {
         match answer {
-            Ok(None) => self.count(0),
-            Ok(Some(bytes)) => {
-                self.count(0);
-                self.sum = bytes
+            Ok(read) => {
+                self.accepted = self.accepted.saturating_add(1);
+                self.sum = read
                     .iter()
+                    .flat_map(|bytes| bytes.iter())
                     .fold(self.sum, |sum, byte| sum.saturating_add(u64::from(*byte)));
             }
-            Err(fault) => self.count(fault.number()),
+            Err(fault) => {
+                let place = usize::from(fault.number()).wrapping_sub(1);
+                if let Some(count) = self.refused.get_mut(place) {
+                    *count = count.saturating_add(1);
+                }
+            }
         }
     }
 }
 
 impl fmt::Display for Counts {
+    ghost output = { λ c. Some (counts_text c) };
+
     fn fmt<W: fmt::Write>(&self, f: &mut fmt::Formatter<W>) -> fmt::Result {
-        let sum = self.sum;
-        for count in &self.by_number {
+        let (accepted, sum) = (self.accepted, self.sum);
+        write!(f, "{accepted},")?;
+        for count in &self.refused {
             write!(f, "{count},")?;
         }
         write!(f, "{sum}")

@@ -24,11 +24,10 @@ pub struct Line {
 }
 
 fn read_list(heap: Global, texts: &[&str]) -> Result<Vec<Plan>, Fault> {
-    let mut list = Vec::with_capacity(heap, texts.len())?;
-    for text in texts {
-        list.push(Plan::read(heap, text)?)?;
-    }
-    Ok(list)
+    texts
+        .iter()
+        .map(|text| Plan::read(heap, text))
+        .try_collect(heap)
 }
 
 impl Line {

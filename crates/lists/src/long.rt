@@ -6,32 +6,25 @@ use crate::counts::Counts;
 use crate::outcome::Outcome;
 use crate::rack::Rack;
 use histories::{Call, Turn};
-use readings::{Reading, mix};
+use readings::{Reading, output};
 use std::alloc::AllocError;
-use synopsis::kind::Synopsis;
-
-// The constant that the generator adds to its state.
-const STEP: u64 = 0x9E37_79B9_7F4A_7C15;
+use synopsis::kind::{LONGEST, Synopsis};
 
 pub(crate) const NODES: usize = 7;
 
-// Room for any frame.
-const ROOM: usize = 2048;
-
-// The frame of the reading of this item, in a room for it; no bytes where none is written.
-fn frame_of<S: Synopsis>(item: u64, room: &mut [u8]) -> &[u8] {
+// The frame of the reading of this item, in a room for it; none where the kind is too long for one.
+fn frame_of<S: Synopsis>(item: u64, room: &mut [u8]) -> Option<&[u8]> {
     let value = S::make(Reading {
         tenant: 0,
         item,
         amount: 0,
     });
-    let length = value
-        .encode(room)
-        .map_or(0, |length| length.min(room.len()));
-    &room[..length]
+    let length = value.encode(room).ok()?;
+    room.get(..length)
 }
 
-// The call that a word tells; the frame of an ARRIVE lacks its last byte where the odd part of the word says so.
+// The call that a word tells; the frame of an ARRIVE lacks its last byte where the odd part of the word says so. Its
+// casts lose nothing: behind `try_from` they would want an answer where a number below 1024 is no size.
 fn call_of<S: Synopsis>(word: u64, odd: u64, room: &mut [u8]) -> Call<'_> {
     let node = (word / 16 % 8) as usize;
     let slot = (25 + word / 128 % 8) as usize;
@@ -46,15 +39,11 @@ fn call_of<S: Synopsis>(word: u64, odd: u64, room: &mut [u8]) -> Call<'_> {
             },
         },
         2 => {
-            let frame = frame_of::<S>(word, room);
-            let length = if odd % 8 == 2 {
-                frame.len().saturating_sub(1)
-            } else {
-                frame.len()
-            };
+            let frame = frame_of::<S>(word, room).unwrap_or(&[]);
+            let cut = usize::from(odd % 8 == 2);
             Call::Arrive {
                 node,
-                frame: &frame[..length],
+                frame: &frame[..frame.len().saturating_sub(cut)],
             }
         }
         3..=6 => Call::Send { node, slot },
@@ -83,19 +72,24 @@ impl<S: Synopsis> Rack<'_, S> {
         ensures { IfOk result IsLong }
     {
         let mut counts = Counts::new();
-        let mut room: Vec<u8> = vec![in self.heap; 0; ROOM]?;
+        let mut room: Vec<u8> = vec![in self.heap; 0; LONGEST]?;
         for i in 0..count {
-            let word = mix(seed.wrapping_add(STEP.wrapping_mul(i)));
+            let word = output(seed, i);
             counts.add(&self.turn(&turn_of::<S>(word, room.as_mut_slice()))?);
         }
-        let mut ends = Vec::with_capacity(self.heap, NODES)?;
-        for node in 0..NODES {
-            ends.push(self.turn(&Turn {
-                values: usize::MAX,
-                bytes: usize::MAX,
-                call: Call::Read { node, room: ROOM },
-            })?)?;
-        }
+        let heap = self.heap;
+        let ends = (0..NODES)
+            .map(|node| {
+                self.turn(&Turn {
+                    values: usize::MAX,
+                    bytes: usize::MAX,
+                    call: Call::Read {
+                        node,
+                        room: LONGEST,
+                    },
+                })
+            })
+            .try_collect(heap)?;
         Ok(Outcome::Long { counts, ends })
     }
 }

@@ -1,4 +1,8 @@
 // What became of a line, as its answer is shown.
+ghost use Rattle.std.specs.Prelude.{Some};
+ghost use Rattle.diffusion.specs.Turns.{tells};
+ghost use Rattle.lists.specs.Texts.{no_text, told_text, answers_text, outcome_text};
+
 use crate::counts::Counts;
 use diffusion::answer::Answer;
 use network::fault::NetworkFault;
@@ -7,10 +11,8 @@ use texts::shown::Hex;
 
 #[derive(Drop)]
 pub enum Outcome {
-    // the network was not opened
-    Unopened(NetworkFault),
-    // all turns were made by one call
-    Run(Vec<Answer>),
+    // all turns were made by one call, or the network was not opened
+    Run(Result<Vec<Answer>, NetworkFault>),
     // the steps were made one by one
     Each(Vec<Answer>),
     // what many turns came to, and what each node held after them
@@ -23,6 +25,8 @@ pub enum Outcome {
 struct No(NetworkFault);
 
 impl fmt::Display for No {
+    ghost output = { λ e. Some (no_text e.0) };
+
     fn fmt<W: fmt::Write>(&self, f: &mut fmt::Formatter<W>) -> fmt::Result {
         let number = self.0.number();
         match self.0 {
@@ -34,28 +38,44 @@ impl fmt::Display for No {
     }
 }
 
-// Answers, each behind a semicolon. An answer is a result, which prints nothing by itself.
+// An answer, which is a result and prints nothing by itself.
+#[derive(Clone, Copy)]
+struct Told<'a>(&'a Answer);
+
+impl fmt::Display for Told<'_> {
+    ghost output = { λ t. Some (told_text (tells t.0.now)) };
+
+    fn fmt<W: fmt::Write>(&self, f: &mut fmt::Formatter<W>) -> fmt::Result {
+        match self.0 {
+            Ok(None) => f.write_str("ok"),
+            Ok(Some(bytes)) => Hex(bytes.as_slice()).fmt(f),
+            Err(fault) => No(*fault).fmt(f),
+        }
+    }
+}
+
+// Answers, each behind a semicolon.
 #[derive(Clone, Copy)]
 struct Brief<'a>(&'a [Answer]);
 
 impl fmt::Display for Brief<'_> {
+    ghost output = { λ b. Some (answers_text b.0.now) };
+
     fn fmt<W: fmt::Write>(&self, f: &mut fmt::Formatter<W>) -> fmt::Result {
         for answer in self.0 {
-            match answer {
-                Ok(None) => f.write_str(";ok")?,
-                Ok(Some(bytes)) => write!(f, ";{}", Hex(bytes.as_slice()))?,
-                Err(fault) => write!(f, ";{}", No(*fault))?,
-            }
+            write!(f, ";{}", Told(answer))?;
         }
         Ok(())
     }
 }
 
 impl fmt::Display for Outcome {
+    ghost output = { λ o. Some (outcome_text o) };
+
     fn fmt<W: fmt::Write>(&self, f: &mut fmt::Formatter<W>) -> fmt::Result {
         match self {
-            Outcome::Unopened(fault) => write!(f, "{}", No(*fault)),
-            Outcome::Run(answers) => write!(f, "ok{}", Brief(answers.as_slice())),
+            Outcome::Run(Ok(answers)) => write!(f, "ok{}", Brief(answers.as_slice())),
+            Outcome::Run(Err(fault)) => write!(f, "{}", No(*fault)),
             Outcome::Each(answers) => write!(f, "new{}", Brief(answers.as_slice())),
             Outcome::Long { counts, ends } => write!(f, "{counts}{}", Brief(ends.as_slice())),
         }

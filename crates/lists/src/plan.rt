@@ -1,26 +1,25 @@
 // Turns as a list writes them.
-ghost use Rattle.std.specs.Prelude.{◌≡◌};
+ghost use Rattle.std.specs.Prelude.{◌≡◌, MatchResult};
 ghost use Rattle.diffusion.specs.Turns.{tells, state_of};
-ghost use Rattle.lists.specs.Plans.{IsCall, IsTurn, Opens};
+ghost use Rattle.lists.specs.declared.plan.Step.TheVariants.{Open};
+ghost use Rattle.lists.specs.Plans.{Plans, Opens};
 
 use diffusion::answer::Answer;
 use histories::{Call, Turn};
 use network::table::Network;
 use readings::Reading;
 use std::alloc::Global;
-use synopsis::kind::Synopsis;
+use synopsis::kind::{LONGEST, Synopsis};
 use texts::fault::Fault;
-use texts::field::{bytes, number, up_to};
-
-// How much room a READ has that names none.
-const ROOM: usize = 2048;
+use texts::field::{bytes, number};
 
 // A node, a slot, or how many of something.
 pub(crate) fn size(text: &str) -> Result<usize, Fault> {
-    Ok(number(text)? as usize)
+    usize::try_from(number(text)?).map_err(|_| Fault::Form)
 }
 
-// How many of the values and of the bytes of memory are brought, a front part of them.
+// How many of the values and of the bytes of memory are brought, a front part of them. A turn holds the same two numbers
+// beside its call, but OPEN has a front and no call.
 #[derive(Clone, Copy)]
 pub struct Front {
     pub values: usize,
@@ -59,105 +58,60 @@ impl Front {
     }
 }
 
-// A call with bytes of its own.
-#[derive(Drop)]
-pub enum OwnedCall {
-    Generate { node: usize, reading: Reading },
-    Arrive { node: usize, frame: Vec<u8> },
-    Send { node: usize, slot: usize },
-    Deliver { slot: usize, node: usize },
-    Drop { slot: usize },
-    Read { node: usize, room: usize },
-}
-
-impl OwnedCall {
-    fn as_call(&self) -> Call<'_>
-        ensures { IsCall self.now result }
-    {
-        match self {
-            OwnedCall::Generate { node, reading } => Call::Generate {
-                node: *node,
-                reading: *reading,
-            },
-            OwnedCall::Arrive { node, frame } => Call::Arrive {
-                node: *node,
-                frame: frame.as_slice(),
-            },
-            OwnedCall::Send { node, slot } => Call::Send {
-                node: *node,
-                slot: *slot,
-            },
-            OwnedCall::Deliver { slot, node } => Call::Deliver {
-                slot: *slot,
-                node: *node,
-            },
-            OwnedCall::Drop { slot } => Call::Drop { slot: *slot },
-            OwnedCall::Read { node, room } => Call::Read {
-                node: *node,
-                room: *room,
-            },
-        }
-    }
-
-    // What such a turn brings and calls.
-    pub(crate) fn as_turn(&self, front: Front) -> Turn<'_>
-        ensures { IsTurn front self.now result }
-    {
-        Turn {
-            values: front.values,
-            bytes: front.bytes,
-            call: self.as_call(),
-        }
-    }
-}
-
+// An ARRIVE has bytes of its own, and no other call has any.
 #[derive(Drop)]
 pub enum Step {
     Open { nodes: usize },
-    Call(OwnedCall),
+    Arrive { node: usize, frame: Vec<u8> },
+    Call(Call<'static>),
+}
+
+// A call that has no bytes.
+fn read_call(fields: &[&str]) -> Result<Call<'static>, Fault> {
+    Ok(match fields {
+        ["g", node, tenant, item, amount] => Call::Generate {
+            node: size(node)?,
+            reading: Reading {
+                tenant: u32::try_from(number(tenant)?).map_err(|_| Fault::Form)?,
+                item: number(item)?,
+                amount: number(amount)?,
+            },
+        },
+        ["s", node, slot] => Call::Send {
+            node: size(node)?,
+            slot: size(slot)?,
+        },
+        ["d", slot, node] => Call::Deliver {
+            slot: size(slot)?,
+            node: size(node)?,
+        },
+        ["x", slot] => Call::Drop { slot: size(slot)? },
+        // with room for any frame
+        ["r", node] => Call::Read {
+            node: size(node)?,
+            room: LONGEST,
+        },
+        ["r", node, room] => Call::Read {
+            node: size(node)?,
+            room: size(room)?,
+        },
+        _ => return Err(Fault::Form),
+    })
 }
 
 impl Step {
     fn read(heap: Global, text: &str) -> Result<Step, Fault> {
         let fields: Vec<&str> = text.split(' ').collect(heap)?;
-        let call = match fields.as_slice() {
-            ["o", nodes] => {
-                return Ok(Step::Open {
-                    nodes: size(nodes)?,
-                });
-            }
-            ["g", node, tenant, item, amount] => OwnedCall::Generate {
-                node: size(node)?,
-                reading: Reading {
-                    tenant: up_to(0xFFFF_FFFF, tenant)? as u32,
-                    item: number(item)?,
-                    amount: number(amount)?,
-                },
+        Ok(match fields.as_slice() {
+            ["o", nodes] => Step::Open {
+                nodes: size(nodes)?,
             },
-            ["a", node, frame] => OwnedCall::Arrive {
+            ["a", node, frame] => Step::Arrive {
                 node: size(node)?,
                 frame: bytes(heap, frame)?,
             },
-            ["s", node, slot] => OwnedCall::Send {
-                node: size(node)?,
-                slot: size(slot)?,
-            },
-            ["d", slot, node] => OwnedCall::Deliver {
-                slot: size(slot)?,
-                node: size(node)?,
-            },
-            ["x", slot] => OwnedCall::Drop { slot: size(slot)? },
-            ["r", node] => OwnedCall::Read {
-                node: size(node)?,
-                room: ROOM,
-            },
-            ["r", node, room] => OwnedCall::Read {
-                node: size(node)?,
-                room: size(room)?,
-            },
-            _ => return Err(Fault::Form),
-        };
-        Ok(Step::Call(call))
+            fields => Step::Call(read_call(fields)?),
+        })
     }
 }
 
@@ -169,6 +123,25 @@ pub struct Plan {
 }
 
 impl Plan {
+    // The turn that it is; of OPEN, which is none, how many nodes it opens.
+    pub(crate) fn as_turn(&self) -> Result<Turn<'_>, usize>
+        ensures { MatchResult result (Plans self.now.front self.now.step) (λ nodes. self.now.step ≡ Open nodes) }
+    {
+        let call = match &self.step {
+            Step::Open { nodes } => return Err(*nodes),
+            Step::Arrive { node, frame } => Call::Arrive {
+                node: *node,
+                frame: frame.as_slice(),
+            },
+            Step::Call(call) => *call,
+        };
+        Ok(Turn {
+            values: self.front.values,
+            bytes: self.front.bytes,
+            call,
+        })
+    }
+
     pub(crate) fn read(heap: Global, text: &str) -> Result<Plan, Fault> {
         let Some(rest) = text.strip_prefix('@') else {
             return Ok(Plan {

@@ -52,11 +52,16 @@ module _ (k : Kind) where
   accepted (Ok x) = Ok tt
   accepted (Err e) = Err (Synopsis e)
 
+  -- how many nodes there are or are to be, and how many values and bytes are brought: what every call refuses before it
+  -- looks at its node and slot
+  abbrev pub served : {A : Type 0} → ℕ → ℕ → ℕ → Result A NetworkFault → Result A NetworkFault
+  served nodes values bytes rest = unless (nat_lt values nodes || nat_lt bytes memory_bytes) Brought (unless (overlong k) Overlong rest)
+
   -- a network, how many values and how many bytes it is brought
   module _ (net : Network) (values bytes : ℕ) where
     -- what every call but OPEN refuses first
     abbrev pub ready : {A : Type 0} → Result A NetworkFault → Result A NetworkFault
-    ready rest = unless (nat_lt values net.count || nat_lt bytes memory_bytes) Brought (unless (overlong k) Overlong rest)
+    ready rest = served net.count values bytes rest
 
     abbrev pub no_node : {A : Type 0} → ℕ → Result A NetworkFault → Result A NetworkFault
     no_node node rest = unless (nat_le net.count node) NoNode rest
@@ -87,7 +92,7 @@ module _ (k : Kind) where
   -- OPEN
   abbrev pub open_answer : ℕ → ℕ → ℕ → Result (Unit {0}) NetworkFault
   open_answer nodes values bytes =
-      unless (nat_lt nodes 1 || nat_lt 16 nodes) NodeCount (unless (nat_lt values nodes || nat_lt bytes memory_bytes) Brought (unless (overlong k) Overlong (Ok tt)))
+      unless (nat_lt nodes 1 || nat_lt 16 nodes) NodeCount (served nodes values bytes (Ok tt))
 
 -- the memory with a frame at a place
 abbrev pub placed : List ℕ → ℕ → List ℕ → List ℕ

@@ -1,17 +1,45 @@
-ghost use Rattle.std.specs.Prelude.{◌≡◌, ◌<◌, ◌≤◌, false, ◌++◌, length, drop, None, Ok, MatchResult, slice_index_or};
-ghost use Rattle.network.specs.Calls.{opened_network, slot_of, switched, value_form, value_frame, placed, slot_start, slot_frame, no_slot, ready, generate_answer, arrive_answer, send_answer, deliver_answer, drop_answer, read_answer, open_answer, Fused, Joined, Emptied};
+ghost use Rattle.std.specs.Prelude.{◌≡◌, ◌<◌, ◌≤◌, false, ◌++◌, length, drop, None, Ok, IfOk, MatchResult, nat_le, slice_index_or};
+ghost use Rattle.network.specs.Calls.{opened_network, slot_of, switched, value_form, value_frame, placed, slot_start, slot_frame, no_slot, unless, served, generate_answer, arrive_answer, send_answer, deliver_answer, drop_answer, read_answer, open_answer, Fused, Joined, Emptied};
+ghost use Rattle.network.specs.declared.fault.NetworkFault.TheVariants.{NoNode, NoSlot};
 ghost use Rattle.synopsis.specs.Kind.{overlong};
 
 use crate::fault::NetworkFault;
 use crate::slot::Filled;
-use crate::table::Network;
+use crate::table::{Network, SLOTS};
 use readings::Reading;
-use synopsis::kind::Synopsis;
+use synopsis::kind::{LONGEST, Synopsis};
 
-// How many bytes a slot has, and all slots together.
-const SLOT: usize = 2048;
+// How many nodes a network has at most.
+const NODES: usize = 16;
 
-const MEMORY: usize = 65536;
+// How many bytes a slot has, room for any frame, and all of them together.
+pub const SLOT: usize = LONGEST;
+
+pub const MEMORY: usize = SLOTS * SLOT;
+
+// What every call refuses before it looks at its node and slot, where there are or are to be so many nodes.
+fn is_served<S: Synopsis>(nodes: usize, values: &[S], memory: &[u8]) -> Result<(), NetworkFault>
+    ensures { result ≡ served S.Synopsis.kind nodes (length values.now) (length memory.now) (Ok tt) }
+{
+    if values.len() < nodes || memory.len() < MEMORY {
+        return Err(NetworkFault::Brought);
+    }
+    if S::is_overlong() {
+        return Err(NetworkFault::Overlong);
+    }
+    Ok(())
+}
+
+// That there is such a slot.
+fn is_slot(slot: usize) -> Result<(), NetworkFault>
+    ensures answer { result ≡ unless (nat_le 32 slot) NoSlot (Ok tt) }
+    ensures within { IfOk result (λ _. slot < 32) }
+{
+    if slot >= SLOTS {
+        return Err(NetworkFault::NoSlot);
+    }
+    Ok(())
+}
 
 // Fuses another value into one of the values.
 fn fuse_at<S: Synopsis>(values: &mut [S], node: usize, other: &S)
@@ -66,19 +94,17 @@ impl Network {
     {
         Network {
             count: 0,
-            slots: [None; 32],
+            slots: [None; SLOTS],
         }
     }
 
-    // What every call but OPEN refuses first.
-    fn is_ready<S: Synopsis>(&self, values: &[S], memory: &[u8]) -> Result<(), NetworkFault>
-        ensures { result ≡ ready S.Synopsis.kind self.now (length values.now) (length memory.now) (Ok tt) }
+    // That there is such a node.
+    fn is_node(&self, node: usize) -> Result<(), NetworkFault>
+        ensures answer { result ≡ unless (nat_le self.now.count node) NoNode (Ok tt) }
+        ensures within { IfOk result (λ _. node < self.now.count) }
     {
-        if values.len() < self.count || memory.len() < MEMORY {
-            return Err(NetworkFault::Brought);
-        }
-        if S::is_overlong() {
-            return Err(NetworkFault::Overlong);
+        if node >= self.count {
+            return Err(NetworkFault::NoNode);
         }
         Ok(())
     }
@@ -94,10 +120,8 @@ impl Network {
         ensures answer { result ≡ generate_answer S.Synopsis.kind self.now (length values.old) (length memory.now) node }
         ensures after { MatchResult result (λ _. Fused S.Synopsis.form values.old values.new node (S.Synopsis.kind.join (value_form S.Synopsis.kind S.Synopsis.form values.old node) (S.Synopsis.kind.single reading))) (λ _. values.new ≡ values.old) }
     {
-        self.is_ready(values, memory)?;
-        if node >= self.count {
-            return Err(NetworkFault::NoNode);
-        }
+        is_served(self.count, values, memory)?;
+        self.is_node(node)?;
         fuse_at(values, node, &S::make(reading));
         Ok(())
     }
@@ -113,10 +137,8 @@ impl Network {
         ensures answer { result ≡ arrive_answer S.Synopsis.kind self.now (length values.old) (length memory.now) node frame.now }
         ensures after { MatchResult result (λ _. Joined S.Synopsis.kind S.Synopsis.form values.old values.new node frame.now) (λ _. values.new ≡ values.old) }
     {
-        self.is_ready(values, memory)?;
-        if node >= self.count {
-            return Err(NetworkFault::NoNode);
-        }
+        is_served(self.count, values, memory)?;
+        self.is_node(node)?;
         let mut heard = S::empty();
         heard.decode(frame)?;
         fuse_at(values, node, &heard);
@@ -135,13 +157,9 @@ impl Network {
         ensures table { MatchResult result (λ _. self.new ≡ switched self.old slot (slot_of node (length (value_frame S.Synopsis.kind S.Synopsis.form values.now node)))) (λ _. self.new ≡ self.old) }
         ensures bytes { MatchResult result (λ _. memory.new ≡ placed memory.old (slot_start slot) (value_frame S.Synopsis.kind S.Synopsis.form values.now node)) (λ _. memory.new ≡ memory.old) }
     {
-        self.is_ready(values, memory)?;
-        if node >= self.count {
-            return Err(NetworkFault::NoNode);
-        }
-        if slot >= 32 {
-            return Err(NetworkFault::NoSlot);
-        }
+        is_served(self.count, values, memory)?;
+        self.is_node(node)?;
+        is_slot(slot)?;
         if self.slots[slot].is_some() {
             return Err(NetworkFault::SlotFilled);
         }
@@ -161,13 +179,9 @@ impl Network {
         ensures answer { result ≡ deliver_answer S.Synopsis.kind self.now (length values.old) (length memory.now) memory.now slot node }
         ensures after { MatchResult result (λ _. Joined S.Synopsis.kind S.Synopsis.form values.old values.new node (slot_frame memory.now slot (slice_index_or self.now.slots slot no_slot))) (λ _. values.new ≡ values.old) }
     {
-        self.is_ready(values, memory)?;
-        if slot >= 32 {
-            return Err(NetworkFault::NoSlot);
-        }
-        if node >= self.count {
-            return Err(NetworkFault::NoNode);
-        }
+        is_served(self.count, values, memory)?;
+        is_slot(slot)?;
+        self.is_node(node)?;
         let Filled { length, .. } = self.slots[slot].ok_or(NetworkFault::SlotFree)?;
         let at = SLOT * slot;
         let mut heard = S::empty();
@@ -186,10 +200,8 @@ impl Network {
         ensures answer { result ≡ drop_answer S.Synopsis.kind self.old (length values.now) (length memory.now) slot }
         ensures table { MatchResult result (λ _. self.new ≡ switched self.old slot None) (λ _. self.new ≡ self.old) }
     {
-        self.is_ready(values, memory)?;
-        if slot >= 32 {
-            return Err(NetworkFault::NoSlot);
-        }
+        is_served(self.count, values, memory)?;
+        is_slot(slot)?;
         if self.slots[slot].is_none() {
             return Err(NetworkFault::SlotFree);
         }
@@ -208,10 +220,8 @@ impl Network {
         ensures answer { result ≡ read_answer S.Synopsis.kind self.now (length values.now) (length memory.now) node (value_form S.Synopsis.kind S.Synopsis.form values.now node) (length out.old) }
         ensures after { MatchResult result (λ n. out.new ≡ value_frame S.Synopsis.kind S.Synopsis.form values.now node ++ drop n out.old) (λ _. out.new ≡ out.old) }
     {
-        self.is_ready(values, memory)?;
-        if node >= self.count {
-            return Err(NetworkFault::NoNode);
-        }
+        is_served(self.count, values, memory)?;
+        self.is_node(node)?;
         values[node].encode(out).map_err(|_| NetworkFault::Room)
     }
 
@@ -226,19 +236,14 @@ impl Network {
         ensures table { MatchResult result (λ _. self.new ≡ opened_network nodes) (λ _. self.new ≡ self.old) }
         ensures after { MatchResult result (λ _. Emptied S.Synopsis.form S.Synopsis.kind.none values.old values.new nodes) (λ _. values.new ≡ values.old) }
     {
-        if nodes < 1 || nodes > 16 {
+        if nodes < 1 || nodes > NODES {
             return Err(NetworkFault::NodeCount);
         }
-        if values.len() < nodes || memory.len() < MEMORY {
-            return Err(NetworkFault::Brought);
-        }
-        if S::is_overlong() {
-            return Err(NetworkFault::Overlong);
-        }
+        is_served(nodes, values, memory)?;
         empty_front(values, nodes);
         *self = Network {
             count: nodes,
-            slots: [None; 32],
+            slots: [None; SLOTS],
         };
         Ok(())
     }

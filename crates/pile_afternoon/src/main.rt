@@ -6,18 +6,8 @@ use least::row::LeastValues;
 use pile::{FourSamples, StandardPile};
 use sample::row::SampleRun;
 use std::io;
-use story::plan::{HOSTS, Plan};
-use story::teller::{Compare, afternoon, example_and_afternoon, tell};
-
-// This program compares frames byte by byte. The other afternoon has the same lines, since each program has a must-fail
-// edit that breaks its own comparison.
-struct Bytewise;
-
-impl Compare for Bytewise {
-    fn is_equal(one: &[u8], other: &[u8]) -> bool {
-        one == other
-    }
-}
+use story::plan::{HOSTS, Plan, Script};
+use story::teller::{Bytewise, afternoon, example_and_afternoon, tell};
 
 // What a pile tells, one part after another.
 fn show(rt: &impl Print, pile: &StandardPile) -> io::Result<()> {
@@ -40,6 +30,10 @@ fn main(rt: HostRuntime) -> io::Result<()> {
         show(&rt, pile)?;
     }
     println!(rt; "An overlong pile: four samples in three pairs.")?;
-    tell::<FourSamples, Bytewise>(&rt, &Plan::new(rt.alloc(), HOSTS))?;
+    let opening = Plan {
+        hosts: HOSTS,
+        script: Script::new(rt.alloc()),
+    };
+    tell::<FourSamples, Bytewise>(&rt, &opening)?;
     Ok(())
 }

@@ -12,6 +12,10 @@ folded k z = bit_xor z (z / 2 ^ k)
 abbrev pub mixed : ℕ → ℕ
 mixed item = folded 31 ((folded 27 ((folded 30 ((item + 0x9E3779B97F4A7C15) % 2 ^ 64) * 0xBF58476D1CE4E5B9) % 2 ^ 64) * 0x94D049BB133111EB) % 2 ^ 64)
 
+-- the output of the generator that has this seed after so many others: a constant is added to its state before each
+abbrev pub output_of : ℕ → ℕ → ℕ
+output_of seed i = mixed ((seed + i * 0x9E3779B97F4A7C15 % 2 ^ 64) % 2 ^ 64)
+
 -- a reading counts by its item
 abbrev pub hash_of : Reading → ℕ
 hash_of r = mixed r.item

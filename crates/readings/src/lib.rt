@@ -2,7 +2,7 @@
 #![tactic(auto)]
 
 ghost use Rattle.std.specs.Prelude.{◌≡◌};
-ghost use Rattle.readings.specs.Readings.{mixed, hash_of, mark_of};
+ghost use Rattle.readings.specs.Readings.{mixed, output_of, hash_of, mark_of};
 
 // One client seen at work: whose, which client, and how much it used.
 #[derive(Clone, Copy, PartialEq, Eq, Debug)]
@@ -21,14 +21,24 @@ impl Reading {
     }
 }
 
+// What the SplitMix64 generator adds to its state before each output.
+const STEP: u64 = 0x9E37_79B9_7F4A_7C15;
+
 // SplitMix64's output step.
 pub fn mix(item: u64) -> u64
     ensures { result ≡ mixed item }
 {
-    let mut z = item.wrapping_add(0x9E3779B97F4A7C15);
+    let mut z = item.wrapping_add(STEP);
     z = (z ^ (z >> 30)).wrapping_mul(0xBF58476D1CE4E5B9);
     z = (z ^ (z >> 27)).wrapping_mul(0x94D049BB133111EB);
     z ^ (z >> 31)
+}
+
+// Output `i` of the generator that has this seed, counted from zero.
+pub fn output(seed: u64, i: u64) -> u64
+    ensures { result ≡ output_of seed i }
+{
+    mix(seed.wrapping_add(i.wrapping_mul(STEP)))
 }
 
 // The mark of a hash: its bucket, below 64, and its rank, at most 31.

@@ -1,9 +1,9 @@
 -- Plain rows of records: what is read into one, and the length of its frame.
-use Rattle.std.proofs.Common.{◌≡◌, ℕ, ◌+◌, ◌*◌, ◌≤◌, Bool, T, List, length, take, drop, replicate, Ok, Ordering, sym, ap, ◌∙◌, mul_comm, arith}
+use Rattle.std.proofs.Common.{◌≡◌, ℕ, ◌≤◌, Bool, T, List, length, take, drop, replicate, Ok, Ordering, sym, ap, ◌∙◌}
 use Rattle.runs.specs.Runs.{rising, as_run, is_run_row, row_form}
 use Rattle.runs.proofs.Rows.{fresh_row, kept_form, kept_items}
 use Rattle.records.specs.Records.{Layout, Readable}
-use Rattle.records.specs.RunKind.{frame_of, read_frame}
+use Rattle.records.specs.RunKind.{end_of, frame_of, read_frame}
 use Rattle.records.proofs.RecordFrames.{length_of_frame}
 
 module _ {E : Type 0} (number most : ℕ) (l : Layout E) (order : E → E → Ordering) where
@@ -17,9 +17,5 @@ module _ {E : Type 0} (number most : ℕ) (l : Layout E) (order : E → E → Or
       (reads ∙ ap Ok (sym (kept_form order blank most count places kept)), ap (frame_of number l) (kept_items order blank most count places long kept) ∙ back)
 
 -- the frame of what a slice holds has its header and so many records
-pub slice_length : {E : Type 0} (number : ℕ) (l : Layout E) → Readable l → (slice items : List E) → slice ≡ items → 4 + l.width * length slice ≡ length (frame_of number l items)
-slice_length number l rd slice items e =
-    let long = length_of_frame l rd number items in
-    let n : length slice ≡ length items = ap length e in
-    let m : l.width * length slice ≡ length items * l.width = ap (λ (k : ℕ). l.width * k) n ∙ mul_comm l.width (length items) in
-    omega arith
+pub slice_length : {E : Type 0} (number : ℕ) (l : Layout E) → Readable l → (slice items : List E) → slice ≡ items → end_of l (length slice) ≡ length (frame_of number l items)
+slice_length {E} number l rd slice items e = ap (λ (xs : List E). end_of l (length xs)) e ∙ sym (length_of_frame l rd number items)

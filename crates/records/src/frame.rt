@@ -1,13 +1,23 @@
 ghost use Rattle.std.specs.Prelude.{◌≡◌, ◌≤◌, T, length, take, drop, Ok, Err, MatchResult};
-ghost use Rattle.runs.specs.Runs.{rising, as_run};
+ghost use Rattle.runs.specs.Runs.{rising, as_run, form_of};
 ghost use Rattle.synopsis.specs.Kind.{fitted, over};
-ghost use Rattle.records.specs.RecordFrames.{FitsFrame, frame_of, read_records, placed_over, Placed};
+ghost use Rattle.records.specs.RecordFrames.{FitsFrame, end_of, frame_of, read_records, placed_over, Placed};
 ghost use Rattle.records.specs.RunKind.{read_frame};
 
 use crate::record::{Record, get_all, put_all};
 use frames::header::{Header, header_bytes, read_header};
+use runs::element::Fresh;
+use runs::row::Row;
 use runs::run::fall;
 use synopsis::fault::{DecodeFault, EncodeFault, Reason};
+
+// The length of a frame with these records.
+pub fn run_length<E: Record>(items: &[E]) -> usize
+    requires { FitsFrame E.Record.layout (length items.now) }
+    ensures { result ≡ end_of E.Record.layout (length items.now) }
+{
+    4 + items.len() * E::width()
+}
 
 // Writes the frame of a kind with these records at the front of `out`, and answers its length. That they fit is asked for,
 // also below: a trait with that fact would ask more of those who call.
@@ -16,10 +26,11 @@ pub fn encode_run<E: Record>(kind: u8, items: &[E], out: &mut [u8]) -> Result<us
     ensures answer { result ≡ fitted (frame_of kind E.Record.layout items.now) (length out.old) }
     ensures after { out.new ≡ over (frame_of kind E.Record.layout items.now) out.old }
 {
-    let end = 4 + items.len() * E::width();
+    let end = run_length(items);
     if out.len() < end {
         return Err(EncodeFault::Room);
     }
+    // By `as`: that both fit is asked for, and `try_from` would answer a refusal that never comes.
     let header = header_bytes(
         kind,
         Header {
@@ -44,9 +55,10 @@ pub fn decode_records<E: Record>(
     ensures { MatchResult result (Placed kind fewest (length out.old) E.Record.layout frame.now out.old out.new) (λ e. (read_records kind fewest (length out.old) E.Record.layout frame.now ≡ Err e) × (out.new ≡ out.old)) }
 {
     let width = E::width();
+    // The number of places by `as`, as above.
     let header = read_header(frame, kind, fewest, out.len() as u8)?;
-    let count = header.count as usize;
-    let end = header.end as usize;
+    let count = usize::from(header.count);
+    let end = usize::from(header.end);
     if end != frame.len() || end != 4 + count * width {
         return Err(DecodeFault::new(Reason::End, 2, kind));
     }
@@ -63,8 +75,21 @@ pub fn decode_run<E: Record>(kind: u8, frame: &[u8], out: &mut [E]) -> Result<us
 {
     let width = E::width();
     let count = decode_records(kind, 0, frame, out)?;
-    match fall(&out[0..count]) {
-        Some(i) => Err(DecodeFault::new(Reason::Order, 4 + i * width, kind)),
-        None => Ok(count),
+    if let Some(i) = fall(&out[0..count]) {
+        return Err(DecodeFault::new(Reason::Order, 4 + i * width, kind));
     }
+    Ok(count)
+}
+
+// Reads a frame of a kind whose records rise into a row with a place for each of its most records.
+pub fn decode_row<E: Record + Fresh, const N: usize>(
+    kind: u8,
+    frame: &[u8],
+) -> Result<Row<E, N>, DecodeFault>
+    requires { FitsFrame E.Record.layout N }
+    ensures { MatchResult result (λ row. (read_frame kind N E.Record.layout E.Ord.cmp frame.now ≡ Ok (form_of E.Ord.cmp E.Element.blank row)) × (frame_of kind E.Record.layout (form_of E.Ord.cmp E.Element.blank row).items ≡ frame.now)) (λ e. read_frame kind N E.Record.layout E.Ord.cmp frame.now ≡ Err e) }
+{
+    let mut places = [E::default(); N];
+    let count = decode_run(kind, frame, &mut places)?;
+    Ok(Row { count, places })
 }

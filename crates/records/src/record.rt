@@ -76,7 +76,7 @@ fn get_sized(bytes: &[u8], width: usize) -> u64
 }
 
 // Numbers of 64 bits, as hash values are: eight bytes, highest first. What it shares with that of 32 bits are the two calls
-// above; no trait stands for both kinds of number.
+// above; no plainer as one, for both it would be a trait of numbers and an impl of that for each, as long as these.
 impl Record for u64 {
     ghost layout = { number_layout };
 
@@ -110,6 +110,7 @@ impl Record for u32 {
     }
 
     fn get(bytes: &[u8]) -> u32 {
+        // By `as`, behind a remainder: `try_from` would answer a refusal that never comes.
         (get_sized(bytes, 4) % (1 << 32)) as u32
     }
 }

@@ -1,20 +1,15 @@
 -- The order by a key is lawful, that of numbers by size among them.
-use Rattle.std.proofs.Common.{◌≡◌, ℕ, List, [], ◌∷◌, Ordering, Less, Equal, Greater, refl, ap, ◌∙◌, arith}
+use Rattle.std.proofs.Common.{◌≡◌, ℕ, List, [], ◌∷◌, Ordering, Less, Equal, Greater, refl, ap, arith}
 use Rattle.std.specs.Cmp.{IsTotalOrder}
 use Rattle.std.specs.Ordering.{ordering_reverse}
 use Rattle.std.proofs.lemmas.Bool.Decides.{nat_tests}
-use Rattle.runs.specs.Order.{Lawful, ranked, by_key, by_size, turned}
-
-turned_reverse : (o : Ordering) → turned o ≡ ordering_reverse o
-turned_reverse Less = refl
-turned_reverse Equal = refl
-turned_reverse Greater = refl
+use Rattle.runs.specs.Order.{Lawful, ranked, by_key, by_size}
 
 -- one number of a key, before what decides where it is equal
 ranked_same : (m n : ℕ) (rest : Ordering) → ranked m n rest ≡ Equal → (m ≡ n) × (rest ≡ Equal)
 ranked_same m n rest h = grind (arith, nat_tests)
 
-ranked_turns : (m n : ℕ) (one other : Ordering) → other ≡ turned one → ranked n m other ≡ turned (ranked m n one)
+ranked_turns : (m n : ℕ) (one other : Ordering) → other ≡ ordering_reverse one → ranked n m other ≡ ordering_reverse (ranked m n one)
 ranked_turns m n one other e = grind (arith, nat_tests)
 
 ranked_trans : (l m n : ℕ) (p q r : Ordering) → (p ≡ Less → q ≡ Less → r ≡ Less) → ranked l m p ≡ Less → ranked m n q ≡ Less → ranked l n r ≡ Less
@@ -29,7 +24,7 @@ key_same (m ∷ ms) (n ∷ ns) h =
     let rest = key_same ms ns e.1 in
     cc e.0
 
-key_turns : (ms ns : List ℕ) → by_key ns ms ≡ turned (by_key ms ns)
+key_turns : (ms ns : List ℕ) → by_key ns ms ≡ ordering_reverse (by_key ms ns)
 key_turns [] [] = refl
 key_turns [] (n ∷ ns) = refl
 key_turns (m ∷ ms) [] = refl
@@ -61,7 +56,7 @@ size_lawful = record {
 -- a lawful order is total, as the library says it
 pub lawful_total : {E : Type 0} {order : E → E → Ordering} → Lawful order → IsTotalOrder order
 lawful_total {E} {order} laws = record {
-  antisymm = λ x y. laws.turns y x ∙ turned_reverse (order y x);
+  antisymm = λ x y. laws.turns y x;
   trans = laws.trans;
   congr = λ x y z e. ap (λ (w : E). order w z) (laws.same x y e);
 }
@@ -70,7 +65,7 @@ lawful_total {E} {order} laws = record {
 pub lawful_self : {E : Type 0} {order : E → E → Ordering} → Lawful order → (x : E) → order x x ≡ Equal
 lawful_self {E} {order} laws x = own (order x x) (laws.turns x x)
   where
-    own : (o : Ordering) → o ≡ turned o → o ≡ Equal
+    own : (o : Ordering) → o ≡ ordering_reverse o → o ≡ Equal
     own Less e = cc
     own Equal e = refl
     own Greater e = cc

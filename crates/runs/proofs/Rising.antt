@@ -2,8 +2,8 @@
 use Rattle.std.proofs.Common.{◌≡◌, ℕ, ◌≤◌, Bool, true, false, ◌&&◌, T, List, [], ◌∷◌, length, Ordering, Less, Equal, Greater, sym, refl, ap, ◌∙◌, subst, inl, inr, ⊎_elim, arith}
 use Rattle.std.proofs.lemmas.Bool.{cases_lt}
 use Rattle.std.specs.List.{AllByRecursion}
-use Rattle.std.specs.Ordering.{is_lt}
-use Rattle.runs.specs.Order.{Lawful, turned}
+use Rattle.std.specs.Ordering.{is_lt, ordering_reverse}
+use Rattle.runs.specs.Order.{Lawful}
 use Rattle.runs.specs.Runs.{rising_from, rising}
 use Rattle.runs.specs.Union.{Among, Least}
 
@@ -52,15 +52,15 @@ module _ {E : Type 0} (order : E → E → Ordering) (laws : Lawful order) where
   same_self x = by (order x x) refl
     where
       by : (o : Ordering) → order x x ≡ o → order x x ≡ Equal
-      by Less e = let z : ◌≡◌ {A = Ordering} Less Greater = sym e ∙ laws.turns x x ∙ ap turned e in absurd (subst (λ (o : Ordering). T (is_lt o)) z tt)
+      by Less e = let z : ◌≡◌ {A = Ordering} Less Greater = sym e ∙ laws.turns x x ∙ ap ordering_reverse e in absurd (subst (λ (o : Ordering). T (is_lt o)) z tt)
       by Equal e = e
-      by Greater e = let z : ◌≡◌ {A = Ordering} Less Greater = sym (ap turned e) ∙ sym (laws.turns x x) ∙ e in absurd (subst (λ (o : Ordering). T (is_lt o)) z tt)
+      by Greater e = let z : ◌≡◌ {A = Ordering} Less Greater = sym (ap ordering_reverse e) ∙ sym (laws.turns x x) ∙ e in absurd (subst (λ (o : Ordering). T (is_lt o)) z tt)
 
   pub never_less : (x : E) → order x x ≡ Less → ⊥
   never_less x e = let z : ◌≡◌ {A = Ordering} Less Equal = sym e ∙ same_self x in subst (λ (o : Ordering). T (is_lt o)) z tt
 
   pub less_turned : (x y : E) → order x y ≡ Greater → order y x ≡ Less
-  less_turned x y e = laws.turns x y ∙ ap turned e
+  less_turned x y e = laws.turns x y ∙ ap ordering_reverse e
 
   -- what follows x in a run is greater than x
   pub above : (x : E) (xs : List E) → T (rising_from order x xs) → AllByRecursion (λ y. order x y ≡ Less) xs

@@ -4,7 +4,7 @@ use mathlib.Core.Bool.{true≢false}
 use borrow.Author.Tests.{lt-ltb}
 use Rattle.std.specs.List.{list_all, IsSplitAt}
 use Rattle.std.proofs.lemmas.List.{length-take, drop-replicate}
-use Rattle.std.proofs.lemmas.Bool.{le-leb, and_left, and_right, cond-true, cond-false}
+use Rattle.std.proofs.lemmas.Bool.{le-leb, and_left, and_right, cond-true}
 use Rattle.runs.specs.Runs.{rising, first_fall, is_run, Run, as_run, is_run_row, row_items, row_form}
 use Rattle.runs.specs.Union.{union_of, joined_runs}
 use Rattle.runs.proofs.Rising.{both, left, right, true_from, holds_from}
@@ -53,9 +53,6 @@ module _ {E : Type 0} (order : E → E → Ordering) (blank : E → Bool) (count
   pub row_counted : T (is_run_row order blank count places) → row_items order blank count places ≡ take count places
   row_counted t = cond-true (is_run_row order blank count places) (take count places) [] (true_from (is_run_row order blank count places) t)
 
-  pub row_none : is_run_row order blank count places ≡ false → row_items order blank count places ≡ []
-  row_none e = cond-false (is_run_row order blank count places) (take count places) [] e
-
   pub make_row : count ≤ length places → T (rising order (take count places)) → T (list_all blank (drop count places)) → T (is_run_row order blank count places)
   make_row le up rest = both (leb count (length places)) _ (holds_from (leb count (length places)) (le-leb count (length places) le)) (both (rising order (take count places)) _ up rest)
 
@@ -86,9 +83,6 @@ module _ {E : Type 0} (order : E → E → Ordering) (blank : E → Bool) (k cou
 
     pub kept_items : T (is_run_row order blank count places) → (row_form order blank k count places).items ≡ take count places
     kept_items t = form_items ∙ row_counted order blank count places t
-
-    pub none_items : is_run_row order blank count places ≡ false → (row_form order blank k count places).items ≡ []
-    none_items e = form_items ∙ row_none order blank count places e
 
     -- a row is kept that counts a rising front and whose rest is fresh
     pub fresh_row : (x : E) → T (blank x) → count ≤ k → T (rising order (take count places)) → drop count places ≡ drop count (replicate k x) → T (is_run_row order blank count places)

@@ -2,18 +2,13 @@
 use Rattle.std.specs.Prelude.{◌≡◌, ℕ, List, [], ◌∷◌}
 use Rattle.std.specs.declared.cmp.Ordering.TheVariants.{Less, Equal, Greater}
 use Rattle.std.specs.declared.cmp.Ordering.{Ordering}
-use Rattle.std.specs.Ordering.{nat_cmp, ordering_then}
+use Rattle.std.specs.Ordering.{nat_cmp, ordering_then, ordering_reverse}
 
--- what becomes of an answer when the two elements are exchanged
-abbrev pub turned : Ordering → Ordering
-turned Less = Greater
-turned Equal = Equal
-turned Greater = Less
-
--- an order answers exactly one of less, same and greater; these laws hold of it
+-- an order answers exactly one of less, same and greater, the other way round where the two elements are exchanged; these
+-- laws hold of it
 pub record Lawful {E : Type 0} (order : E → E → Ordering) : Type 0 where
   pub same : (x y : E) → order x y ≡ Equal → x ≡ y
-  pub turns : (x y : E) → order y x ≡ turned (order x y)
+  pub turns : (x y : E) → order y x ≡ ordering_reverse (order x y)
   pub trans : (x y z : E) → order x y ≡ Less → order y z ≡ Less → order x z ≡ Less
 
 -- the order of two numbers, and what decides where they are equal

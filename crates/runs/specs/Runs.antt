@@ -4,6 +4,7 @@ use Rattle.std.specs.declared.cmp.Ordering.{Ordering}
 use Rattle.std.proofs.Common.{sym, subst, zero-le}
 use Rattle.std.specs.List.{list_all}
 use Rattle.std.specs.Ordering.{is_lt}
+use Rattle.runs.specs.declared.row.Row.{Row}
 use Rattle.std.proofs.lemmas.Bool.{le-leb}
 
 module _ {E : Type 0} (order : E → E → Ordering) where
@@ -56,3 +57,13 @@ module _ {E : Type 0} (order : E → E → Ordering) where
   -- what a plain row stands for, as a run of at most k elements
   abbrev pub row_form : (E → Bool) → (k : ℕ) → ℕ → List E → Run k
   row_form blank k count places = as_run k (row_items blank count places)
+
+  -- of a row as code has it: that it passes the check, the places that it counts, and what it stands for
+  abbrev pub keeps : {k : ℕ} → (E → Bool) → Row E k → Bool
+  keeps blank row = is_run_row blank row.count row.places
+
+  abbrev pub form_of : {k : ℕ} → (E → Bool) → Row E k → Run k
+  form_of {k} blank row = row_form blank k row.count row.places
+
+abbrev pub counts : {E : Type 0} {k : ℕ} → Row E k → List E
+counts row = take row.count row.places

@@ -2,8 +2,8 @@ ghost use Rattle.std.specs.Prelude.{Bool, T, ◌==◌, ◌≡◌};
 ghost use Rattle.runs.specs.Order.{Lawful};
 ghost use Rattle.std.proofs.Common.{rules};
 
-// An element of a run: what is equal by its order is the same, and its default stands in unused places.
-pub trait Element: Ord + Copy + Default {
+// An element of a run: what is equal by its order is the same, and one value alone stands in unused places.
+pub trait Element: Ord + Copy {
     // the test of an unused place
     ghost blank: { Self → Bool };
 
@@ -12,11 +12,12 @@ pub trait Element: Ord + Copy + Default {
 
     ghost lawful: { Lawful Self.cmp };
 
-    // one value alone stands in unused places
     ghost one_blank: { (x y : Self) → T (blank x) → T (blank y) → x ≡ y };
+}
 
-    // and that is the default
-    ghost fresh: { (x : Self) → Self.is_default x → T (blank x) };
+// An element with which rows are made: that value is its default.
+pub trait Fresh: Element + Default {
+    ghost fresh: { (x : Self) → Self.is_default x → T (Self.blank x) };
 }
 
 // Numbers of 64 bits, as hash values are: 0 where unused.
@@ -27,9 +28,11 @@ impl Element for u64 {
 
     ghost one_blank = { Prim.search rules };
 
-    ghost fresh = { Prim.search rules };
-
     fn is_blank(self) -> bool {
         self == 0
     }
+}
+
+impl Fresh for u64 {
+    ghost fresh = { Prim.search rules };
 }

@@ -1,8 +1,8 @@
-ghost use Rattle.std.specs.Prelude.{◌≡◌, ℕ, false, T, [], ◌∷◌, take, length, MatchOption};
-ghost use Rattle.runs.specs.Runs.{as_run, is_run_row, row_form};
-ghost use Rattle.runs.specs.Union.{union_of};
+ghost use Rattle.std.specs.Prelude.{◌≡◌, ℕ, ⊤, false, T, [], ◌∷◌, length, MatchOption};
+ghost use Rattle.runs.specs.Runs.{as_run, keeps, counts, form_of};
+ghost use Rattle.runs.specs.Union.{union_of, joined_runs};
 
-use crate::element::Element;
+use crate::element::{Element, Fresh};
 use crate::run::is_run_row;
 use crate::union::union;
 use std::alloc::AllocError;
@@ -18,24 +18,28 @@ pub struct Row<E, const N: usize> {
 // A row that passed the check: what it counts rises strictly, and its other places are unused.
 pub struct Run<E: Element, const N: usize> {
     pub row: Row<E, N>,
-    ghost kept: { T (is_run_row E.Ord.cmp E.Element.blank row.count row.places) },
+    ghost kept: { T (keeps E.Ord.cmp E.Element.blank row) },
 }
 
 // By hand, since neither can be derived beside a ghost field that cites a bound.
 impl<E: Element, const N: usize> Copy for Run<E, N> {}
 
 impl<E: Element, const N: usize> Clone for Run<E, N> {
+    ghost is_clone = { λ x y. y ≡ x };
+
+    ghost is_infallible = { λ _. ⊤ };
+
     fn clone(&self) -> Result<Run<E, N>, AllocError> {
         Ok(*self)
     }
 }
 
-impl<E: Element, const N: usize> Row<E, N> {
+impl<E: Fresh, const N: usize> Row<E, N> {
     // A row that counts nothing.
     pub fn empty() -> Row<E, N>
-        ensures kept { T (is_run_row E.Ord.cmp E.Element.blank result.count result.places) }
-        ensures nothing { take result.count result.places ≡ [] }
-        ensures form { row_form E.Ord.cmp E.Element.blank N result.count result.places ≡ as_run E.Ord.cmp N [] }
+        ensures kept { T (keeps E.Ord.cmp E.Element.blank result) }
+        ensures nothing { counts result ≡ [] }
+        ensures form { form_of E.Ord.cmp E.Element.blank result ≡ as_run E.Ord.cmp N [] }
     {
         Row {
             count: 0,
@@ -45,7 +49,7 @@ impl<E: Element, const N: usize> Row<E, N> {
 
     // A row of one element.
     pub fn single(item: E) -> Row<E, N>
-        ensures { row_form E.Ord.cmp E.Element.blank N result.count result.places ≡ as_run E.Ord.cmp N (item ∷ []) }
+        ensures { form_of E.Ord.cmp E.Element.blank result ≡ as_run E.Ord.cmp N (item ∷ []) }
     {
         let mut places = [E::default(); N];
         match places.first_mut() {
@@ -61,7 +65,7 @@ impl<E: Element, const N: usize> Row<E, N> {
 impl<E: Element, const N: usize> Run<E, N> {
     // The run that a plain row is, where it passes the check.
     pub fn checked(row: &Row<E, N>) -> Option<Run<E, N>>
-        ensures cases { MatchOption result (is_run_row E.Ord.cmp E.Element.blank row.now.count row.now.places ≡ false) (λ t. t.row ≡ row.now) }
+        ensures cases { MatchOption result (keeps E.Ord.cmp E.Element.blank row.now ≡ false) (λ t. t.row ≡ row.now) }
         ensures long { length row.now.places ≡ N }
     {
         if !is_run_row(row.count, &row.places) {
@@ -70,31 +74,37 @@ impl<E: Element, const N: usize> Run<E, N> {
         Some(Run { row: *row })
     }
 
-    // The run that a plain row stands for: the empty one where it fails the check.
-    pub fn of(row: &Row<E, N>) -> Run<E, N>
-        ensures { take result.row.count result.row.places ≡ (row_form E.Ord.cmp E.Element.blank N row.now.count row.now.places).items }
-    {
-        let Some(run) = Run::checked(row) else {
-            return Run { row: Row::empty() };
-        };
-        run
-    }
-
     pub fn as_slice(&self) -> &[E]
-        ensures { result.now ≡ take self.now.row.count self.now.row.places }
+        ensures { result.now ≡ counts self.now.row }
     {
         let places = &self.row.places[..];
         &places[0..self.row.count]
     }
+}
+
+impl<E: Fresh, const N: usize> Run<E, N> {
+    // The run that a plain row stands for: the empty one where it fails the check.
+    pub fn of(row: &Row<E, N>) -> Run<E, N>
+        ensures { counts result.row ≡ (form_of E.Ord.cmp E.Element.blank row.now).items }
+    {
+        Run::checked(row).unwrap_or(Run { row: Row::empty() })
+    }
 
     // The union of two runs, the greatest of it cut where the places are too few.
     pub fn joined(&self, other: &Run<E, N>) -> Run<E, N>
-        ensures { take result.row.count result.row.places ≡ union_of E.Ord.cmp N (take self.now.row.count self.now.row.places) (take other.now.row.count other.now.row.places) }
+        ensures { counts result.row ≡ union_of E.Ord.cmp N (counts self.now.row) (counts other.now.row) }
     {
         let mut places = [E::default(); N];
         let count = union(self.as_slice(), other.as_slice(), &mut places);
         Run {
             row: Row { count, places },
         }
+    }
+
+    // The join of what two rows stand for.
+    pub fn of_both(one: &Row<E, N>, other: &Row<E, N>) -> Run<E, N>
+        ensures { form_of E.Ord.cmp E.Element.blank result.row ≡ joined_runs E.Ord.cmp N (form_of E.Ord.cmp E.Element.blank one.now) (form_of E.Ord.cmp E.Element.blank other.now) }
+    {
+        Run::of(one).joined(&Run::of(other))
     }
 }

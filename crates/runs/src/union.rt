@@ -59,15 +59,13 @@ pub fn union<E: Element>(a: &[E], b: &[E], out: &mut [E]) -> usize
 {
     let mut left = a;
     let mut right = b;
-    let mut n = 0;
-    for place in out.iter_mut() {
+    for (n, place) in out.iter_mut().enumerate() {
         let Some(next) = advance(left, right) else {
-            break;
+            return n;
         };
         *place = next.item;
         left = next.left;
         right = next.right;
-        n += 1;
     }
-    n
+    out.len()
 }

@@ -5,13 +5,13 @@ ghost use Rattle.sample.specs.Forms.{sample_laws};
 use crate::record::SampleRecord;
 use crate::row::{Sample, SampleRun};
 use readings::Reading;
-use records::frame::{decode_run, encode_run};
+use records::frame::{decode_row, encode_run, run_length};
 use runs::row::Row;
 use synopsis::fault::{DecodeFault, EncodeFault};
 use synopsis::kind::Synopsis;
 
-// Each kind has these calls of its own, in a line or two that say what differs: an impl for every row at once would need a
-// type of our own for hash values, since an interface of another crate can't be had for a type of a third.
+// Each kind has these calls of its own, a line or two for each: an impl for every row at once would owe, at each call of a
+// Run, that this has fewer than 2^63 bytes, of which a proof knows nothing for a row of any element.
 impl Synopsis for Sample {
     const NUMBER: u8 = 3;
 
@@ -40,24 +40,19 @@ impl Synopsis for Sample {
     }
 
     fn fuse(&mut self, other: &Self) {
-        let joined = SampleRun::of(&self.row).joined(&SampleRun::of(&other.row));
-        self.row = joined.row;
+        self.row = SampleRun::of_both(&self.row, &other.row).row;
     }
 
     fn length(&self) -> usize {
-        let run = SampleRun::of(&self.row);
-        4 + 20 * run.as_slice().len()
+        run_length(SampleRun::of(&self.row).as_slice())
     }
 
     fn encode(&self, out: &mut [u8]) -> Result<usize, EncodeFault> {
-        let run = SampleRun::of(&self.row);
-        encode_run(Self::NUMBER, run.as_slice(), out)
+        encode_run(Self::NUMBER, SampleRun::of(&self.row).as_slice(), out)
     }
 
     fn decode(&mut self, frame: &[u8]) -> Result<(), DecodeFault> {
-        let mut places = [SampleRecord::default(); 32];
-        let count = decode_run(Self::NUMBER, frame, &mut places)?;
-        self.row = Row { count, places };
+        self.row = decode_row(Self::NUMBER, frame)?;
         Ok(())
     }
 }

@@ -7,7 +7,7 @@ ghost use Rattle.std.proofs.Common.{rules};
 
 use readings::Reading;
 use records::record::Record;
-use runs::element::Element;
+use runs::element::{Element, Fresh};
 use std::cmp::Ordering;
 
 // How many bytes a record has in a frame.
@@ -34,17 +34,25 @@ impl From<Reading> for SampleRecord {
     }
 }
 
+// The reading that a record keeps.
+impl From<SampleRecord> for Reading {
+    ghost from_gives = { λ kept r. r ≡ reading_of kept };
+
+    fn from(kept: SampleRecord) -> Reading {
+        Reading {
+            tenant: kept.tenant,
+            item: kept.item,
+            amount: kept.amount,
+        }
+    }
+}
+
 impl SampleRecord {
     // The hash of the reading that the record keeps.
     pub fn hash(self) -> u64
         ensures { result ≡ hash_of (reading_of self) }
     {
-        let reading = Reading {
-            tenant: self.tenant,
-            item: self.item,
-            amount: self.amount,
-        };
-        reading.hash()
+        Reading::from(self).hash()
     }
 
     // What records are compared by, one part after another.
@@ -88,11 +96,13 @@ impl Element for SampleRecord {
 
     ghost one_blank = { one_unused };
 
-    ghost fresh = { Prim.search rules };
-
     fn is_blank(self) -> bool {
         self.item == 0 && self.tenant == 0 && self.amount == 0
     }
+}
+
+impl Fresh for SampleRecord {
+    ghost fresh = { Prim.search rules };
 }
 
 // Item in eight bytes, tenant in four, amount in eight.

@@ -2,10 +2,8 @@
 #![tactic(auto)]
 
 mod line;
-mod parts;
+pub mod parts;
 pub mod plan;
 pub mod play;
 mod show;
 pub mod teller;
-#[cfg(test)]
-mod tests;

@@ -1,16 +1,16 @@
 // What is planned: the example, and the afternoon part by part.
-ghost use Rattle.std.specs.Prelude.{◌≡◌, IfOk};
+ghost use Rattle.std.specs.Prelude.{◌≡◌, [], ◌∷◌, IfOk};
+ghost use Rattle.histories.specs.declared.Call.TheVariants.{Generate, Send, Deliver, Read};
+ghost use Rattle.story.specs.Plans.{brought};
 
-use crate::plan::{HOSTS, Plan, ROOM};
+use crate::plan::{HOSTS, Plan, Script};
+use network::table::SLOTS;
 use readings::Reading;
 use std::alloc::{AllocError, Global};
-use synopsis::kind::Synopsis;
+use synopsis::kind::{LONGEST, Synopsis};
 
 // How many hosts the example has.
 const PAIR: usize = 2;
-
-// How many slots a network has.
-const SLOTS: usize = 32;
 
 // How many slots the parts before the fifth use.
 const USED: usize = 5;
@@ -36,139 +36,131 @@ pub(crate) fn cut_frame<S: Synopsis>(heap: Global) -> Result<Vec<u8>, AllocError
             amount,
         }));
     }
-    let mut bytes: Vec<u8> = vec![in heap; 0; ROOM]?;
-    // an overlong kind has no frame, and nothing of it gets through
-    let length = value.encode(&mut bytes).unwrap_or(0);
-    bytes.truncate(length.min(CUT));
-    Ok(bytes)
+    let mut bytes = [0; LONGEST];
+    // an overlong kind has no frame, and nothing gets through
+    let through = value.encode(&mut bytes).map_or(0, |length| length.min(CUT));
+    Vec::from_slice(heap, &bytes[..through])
 }
 
 // A frame is what its sender held when it was sent, and a free slot delivers nothing.
-pub(crate) fn example(heap: Global) -> Result<Plan<'static>, AllocError> {
-    let mut plan = Plan::new(heap, PAIR);
-    plan.count(0, 7, 0, 500)?;
-    plan.send(0, 3)?;
-    plan.count(0, 7, 9, 900)?;
-    plan.deliver(3, 1)?;
-    plan.read(1)?;
-    plan.deliver(4, 1)?;
-    Ok(plan)
+pub fn example(heap: Global) -> Result<Plan<'static>, AllocError>
+    ensures hosts { IfOk result (λ plan. plan.hosts ≡ 2) }
+    ensures turns { IfOk result (λ plan. plan.script.turns.items ≡ brought (Generate 0 (record { tenant = 7; item = 0; amount = 500 })) ∷ brought (Send 0 3) ∷ brought (Generate 0 (record { tenant = 7; item = 9; amount = 900 })) ∷ brought (Deliver 3 1) ∷ brought (Read 1 2048) ∷ brought (Deliver 4 1) ∷ []) }
+    ensures notes { IfOk result (λ plan. plan.script.notes.items ≡ []) }
+{
+    let mut script = Script::new(heap);
+    script.count(0, 7, 0, 500)?;
+    script.send(0, 3)?;
+    script.count(0, 7, 9, 900)?;
+    script.deliver(3, 1)?;
+    script.read(1)?;
+    script.deliver(4, 1)?;
+    Ok(Plan {
+        hosts: PAIR,
+        script,
+    })
 }
 
 // Client 1 is seen by both hosts, for two tenants.
-fn two_hosts(plan: &mut Plan<'_>) -> Result<(), AllocError>
-    ensures { plan.new.hosts ≡ plan.old.hosts }
-{
-    plan.part("1. Two hosts count clients, one of them seen by both, and pass frames.")?;
-    plan.count(0, 7, 0, 500)?;
-    plan.count(0, 7, 1, 900)?;
-    plan.count(1, 8, 1, 40)?;
-    plan.count(1, 8, 2, 75)?;
-    plan.send(0, 0)?;
-    plan.deliver(0, 1)?;
-    plan.send(1, 1)?;
-    plan.deliver(1, 0)?;
-    plan.read(0)?;
+fn two_hosts(script: &mut Script<'_>) -> Result<(), AllocError> {
+    script.part("1. Two hosts count clients, one of them seen by both, and pass frames.")?;
+    script.count(0, 7, 0, 500)?;
+    script.count(0, 7, 1, 900)?;
+    script.count(1, 8, 1, 40)?;
+    script.count(1, 8, 2, 75)?;
+    script.send(0, 0)?;
+    script.deliver(0, 1)?;
+    script.send(1, 1)?;
+    script.deliver(1, 0)?;
+    script.read(0)?;
     Ok(())
 }
 
 // A frame for the far host waits in its slot meanwhile.
-fn unplugged(plan: &mut Plan<'_>) -> Result<(), AllocError>
-    ensures { plan.new.hosts ≡ plan.old.hosts }
-{
-    plan.part("2. The link of host 3 is unplugged: it counts on, and gets nothing.")?;
-    plan.send(0, 2)?;
-    plan.count(FAR, 9, 3, 60)?;
-    plan.count(FAR, 9, 4, 15)?;
-    plan.count(FAR, 9, 2, 20)?;
-    plan.read(FAR)?;
-    plan.part("   It is plugged in again: a frame to it, and one from it.")?;
-    plan.deliver(2, FAR)?;
-    plan.send(FAR, 3)?;
-    plan.deliver(3, 0)?;
-    plan.read(FAR)?;
+fn unplugged(script: &mut Script<'_>) -> Result<(), AllocError> {
+    script.part("2. The link of host 3 is unplugged: it counts on, and gets nothing.")?;
+    script.send(0, 2)?;
+    script.count(FAR, 9, 3, 60)?;
+    script.count(FAR, 9, 4, 15)?;
+    script.count(FAR, 9, 2, 20)?;
+    script.read(FAR)?;
+    script.part("   It is plugged in again: a frame to it, and one from it.")?;
+    script.deliver(2, FAR)?;
+    script.send(FAR, 3)?;
+    script.deliver(3, 0)?;
+    script.read(FAR)?;
     Ok(())
 }
 
 // The frame of slot 0 is the oldest: it reaches host 2 after the newest.
-fn doubled(plan: &mut Plan<'_>) -> Result<(), AllocError>
-    ensures { plan.new.hosts ≡ plan.old.hosts }
-{
-    plan.part("3. Every frame is delivered once more.")?;
-    plan.deliver(0, 1)?;
-    plan.deliver(1, 0)?;
-    plan.deliver(2, FAR)?;
-    plan.deliver(3, 0)?;
-    plan.part("   A newer frame reaches host 2 twice, and then the oldest, late, also twice.")?;
-    plan.count(0, 7, 9, 900)?;
-    plan.send(0, 4)?;
-    plan.deliver(4, 2)?;
-    plan.deliver(4, 2)?;
-    plan.deliver(0, 2)?;
-    plan.deliver(0, 2)?;
+fn doubled(script: &mut Script<'_>) -> Result<(), AllocError> {
+    script.part("3. Every frame is delivered once more.")?;
+    script.deliver(0, 1)?;
+    script.deliver(1, 0)?;
+    script.deliver(2, FAR)?;
+    script.deliver(3, 0)?;
+    script.part("   A newer frame reaches host 2 twice, and then the oldest, late, also twice.")?;
+    script.count(0, 7, 9, 900)?;
+    script.send(0, 4)?;
+    script.deliver(4, 2)?;
+    script.deliver(4, 2)?;
+    script.deliver(0, 2)?;
+    script.deliver(0, 2)?;
     Ok(())
 }
 
 // Hosts 0 and 2 got their clients by different ways.
-fn quiet(plan: &mut Plan<'_>) -> Result<(), AllocError>
-    ensures { plan.new.hosts ≡ plan.old.hosts }
-{
-    plan.part("4. The links are quiet: two hosts that heard of every client are read.")?;
-    let one = plan.read(0)?;
-    let other = plan.read(2)?;
-    plan.compare(one, other)
+fn quiet(script: &mut Script<'_>) -> Result<(), AllocError> {
+    script.part("4. The links are quiet: two hosts that heard of every client are read.")?;
+    let one = script.read(0)?;
+    let other = script.read(2)?;
+    script.compare(one, other)
 }
 
 // One host sends into each slot from this one on.
-fn fill(plan: &mut Plan<'_>, first: usize) -> Result<(), AllocError>
-    ensures { plan.new.hosts ≡ plan.old.hosts }
-{
-    for slot in first..SLOTS {
-        plan.send(0, slot)?;
-    }
-    Ok(())
+fn fill(script: &mut Script<'_>, first: usize) -> Result<(), AllocError> {
+    (first..SLOTS).try_for_each(|slot| script.send(0, slot))
 }
 
 // The slots of the parts before are freed first.
-fn full(plan: &mut Plan<'_>) -> Result<(), AllocError>
-    ensures { plan.new.hosts ≡ plan.old.hosts }
-{
-    plan.part("5. All slots are filled, half of them dropped, and filled again.")?;
+fn full(script: &mut Script<'_>) -> Result<(), AllocError> {
+    script.part("5. All slots are filled, half of them dropped, and filled again.")?;
     for slot in 0..USED {
-        plan.free(slot)?;
+        script.free(slot)?;
     }
-    fill(plan, 0)?;
-    plan.send(1, TRIED)?;
+    fill(script, 0)?;
+    script.send(1, TRIED)?;
     for slot in HALF..SLOTS {
-        plan.free(slot)?;
+        script.free(slot)?;
     }
-    plan.deliver(TRIED, 1)?;
-    fill(plan, HALF)?;
-    plan.deliver(TRIED, 1)
+    script.deliver(TRIED, 1)?;
+    fill(script, HALF)?;
+    script.deliver(TRIED, 1)
 }
 
 // A refused frame leaves its host as it was.
-fn cut<'a>(plan: &mut Plan<'a>, frame: &'a [u8]) -> Result<(), AllocError>
-    ensures { plan.new.hosts ≡ plan.old.hosts }
-{
-    plan.part("6. A frame that was cut on the way reaches host 1.")?;
-    let before = plan.read(1)?;
-    plan.arrive(1, frame)?;
-    let after = plan.read(1)?;
-    plan.compare(before, after)
+fn cut<'a>(script: &mut Script<'a>, frame: &'a [u8]) -> Result<(), AllocError> {
+    script.part("6. A frame that was cut on the way reaches host 1.")?;
+    let before = script.read(1)?;
+    script.arrive(1, frame)?;
+    let after = script.read(1)?;
+    script.compare(before, after)
 }
 
 // All parts in their order; `frame` is what reaches a host in the sixth.
 pub(crate) fn afternoon<'a>(heap: Global, frame: &'a [u8]) -> Result<Plan<'a>, AllocError>
     ensures { IfOk result (λ plan. plan.hosts ≡ 4) }
 {
-    let mut plan = Plan::new(heap, HOSTS);
-    two_hosts(&mut plan)?;
-    unplugged(&mut plan)?;
-    doubled(&mut plan)?;
-    quiet(&mut plan)?;
-    full(&mut plan)?;
-    cut(&mut plan, frame)?;
-    plan.part("7. The end of the afternoon.")?;
-    Ok(plan)
+    let mut script = Script::new(heap);
+    two_hosts(&mut script)?;
+    unplugged(&mut script)?;
+    doubled(&mut script)?;
+    quiet(&mut script)?;
+    full(&mut script)?;
+    cut(&mut script, frame)?;
+    script.part("7. The end of the afternoon.")?;
+    Ok(Plan {
+        hosts: HOSTS,
+        script,
+    })
 }

@@ -1,20 +1,28 @@
 // A plan: turns to be made, and what to say between them.
-ghost use Rattle.std.specs.Prelude.{◌≡◌, [], ◌∷◌, ◌++◌, IfOk, vec_len, MatchResult};
+ghost use Rattle.std.specs.Prelude.{◌≡◌, [], IfOk, vec_len, MatchResult};
 ghost use Rattle.histories.specs.declared.Call.TheVariants.{Generate, Arrive, Send, Deliver, Drop, Read};
-ghost use Rattle.story.specs.Plans.{brought};
+ghost use Rattle.story.specs.Plans.{Planned, Kept};
 
+use diffusion::answer::Answer;
 use histories::{Call, Turn};
+use network::calls::MEMORY;
 use readings::Reading;
 use std::alloc::{AllocError, Global};
+use synopsis::kind::LONGEST;
 
 // How many hosts the field has.
 pub const HOSTS: usize = 4;
 
-// How many bytes of memory the slots have together.
-pub const MEMORY: usize = 65536;
+// The number of a turn that reads: only `read` gives one out.
+#[derive(Clone, Copy)]
+pub struct ReadTurn(usize);
 
-// Room for any frame.
-pub(crate) const ROOM: usize = 2048;
+impl ReadTurn {
+    // What the turn read, if it was made and not refused.
+    pub(crate) fn bytes(self, answers: &[Answer]) -> Option<&[u8]> {
+        answers.get(self.0)?.as_ref().ok()?.as_deref()
+    }
+}
 
 // What is said between turns.
 #[derive(Clone, Copy)]
@@ -22,7 +30,7 @@ pub enum Remark {
     // a heading
     Part(&'static str),
     // whether two turns read equal bytes
-    Compare { one: usize, other: usize },
+    Compare { one: ReadTurn, other: ReadTurn },
 }
 
 // A remark, and before which turn it is made.
@@ -32,24 +40,28 @@ pub struct Note {
     pub remark: Remark,
 }
 
-// A network of how many hosts is opened, its turns in their order, and the notes in theirs: beside the turns, each with
-// its place among them, since turns are made as one slice.
+// Turns in their order, and notes in theirs: beside the turns, each with its place among them, since turns are made as
+// one slice.
 #[derive(Drop)]
-pub struct Plan<'a> {
-    pub hosts: usize,
+pub struct Script<'a> {
     pub turns: Vec<Turn<'a>>,
     pub notes: Vec<Note>,
 }
 
-impl<'a> Plan<'a> {
-    // Only the opening is planned yet.
-    pub fn new(heap: Global, hosts: usize) -> Plan<'a>
-        ensures hosts { result.hosts ≡ hosts }
+// A network of how many hosts is opened, and what follows on it.
+#[derive(Drop)]
+pub struct Plan<'a> {
+    pub hosts: usize,
+    pub script: Script<'a>,
+}
+
+impl<'a> Script<'a> {
+    // Nothing is planned yet.
+    pub fn new(heap: Global) -> Script<'a>
         ensures turns { result.turns.items ≡ [] }
         ensures notes { result.notes.items ≡ [] }
     {
-        Plan {
-            hosts,
+        Script {
             turns: Vec::new(heap),
             notes: Vec::new(heap),
         }
@@ -58,8 +70,7 @@ impl<'a> Plan<'a> {
     // Plans a call, brought all values and all memory; gives its number among the turns.
     fn add(&mut self, call: Call<'a>) -> Result<usize, AllocError>
         ensures number { IfOk result (λ n. n ≡ vec_len self.old.turns) }
-        ensures turns { MatchResult result (λ _. self.new.turns.items ≡ self.old.turns.items ++ brought call.entry ∷ []) (λ _. self.new.turns.items ≡ self.old.turns.items) }
-        ensures rest { (self.new.hosts ≡ self.old.hosts) × (self.new.notes.items ≡ self.old.notes.items) }
+        ensures script { MatchResult result (λ _. Planned self.old self.new call.entry) (λ _. Kept self.old self.new) }
     {
         let number = self.turns.len();
         self.turns.push(Turn {
@@ -72,7 +83,7 @@ impl<'a> Plan<'a> {
 
     // Plans what to say before the next turn.
     fn say(&mut self, remark: Remark) -> Result<(), AllocError>
-        ensures { (self.new.hosts ≡ self.old.hosts) × (self.new.turns.items ≡ self.old.turns.items) }
+        ensures { self.new.turns.items ≡ self.old.turns.items }
     {
         let at = self.turns.len();
         self.notes.push(Note { at, remark })?;
@@ -81,14 +92,14 @@ impl<'a> Plan<'a> {
 
     // A heading.
     pub(crate) fn part(&mut self, heading: &'static str) -> Result<(), AllocError>
-        ensures { (self.new.hosts ≡ self.old.hosts) × (self.new.turns.items ≡ self.old.turns.items) }
+        ensures { self.new.turns.items ≡ self.old.turns.items }
     {
         self.say(Remark::Part(heading))
     }
 
     // Whether two turns read equal bytes is said here.
-    pub(crate) fn compare(&mut self, one: usize, other: usize) -> Result<(), AllocError>
-        ensures { (self.new.hosts ≡ self.old.hosts) × (self.new.turns.items ≡ self.old.turns.items) }
+    pub(crate) fn compare(&mut self, one: ReadTurn, other: ReadTurn) -> Result<(), AllocError>
+        ensures { self.new.turns.items ≡ self.old.turns.items }
     {
         self.say(Remark::Compare { one, other })
     }
@@ -101,8 +112,7 @@ impl<'a> Plan<'a> {
         item: u64,
         amount: u64,
     ) -> Result<(), AllocError>
-        ensures hosts { self.new.hosts ≡ self.old.hosts }
-        ensures turns { IfOk result (λ _. self.new.turns.items ≡ self.old.turns.items ++ brought (Generate node (record { tenant = tenant; item = item; amount = amount })) ∷ []) }
+        ensures { IfOk result (λ _. Planned self.old self.new (Generate node (record { tenant = tenant; item = item; amount = amount }))) }
     {
         let reading = Reading {
             tenant,
@@ -115,8 +125,7 @@ impl<'a> Plan<'a> {
 
     // Bytes from outside reach a host.
     pub(crate) fn arrive(&mut self, node: usize, frame: &'a [u8]) -> Result<(), AllocError>
-        ensures hosts { self.new.hosts ≡ self.old.hosts }
-        ensures turns { IfOk result (λ _. self.new.turns.items ≡ self.old.turns.items ++ brought (Arrive node frame.entry) ∷ []) }
+        ensures { IfOk result (λ _. Planned self.old self.new (Arrive node frame.entry)) }
     {
         self.add(Call::Arrive { node, frame })?;
         Ok(())
@@ -124,8 +133,7 @@ impl<'a> Plan<'a> {
 
     // A host's frame is put into a slot.
     pub(crate) fn send(&mut self, node: usize, slot: usize) -> Result<(), AllocError>
-        ensures hosts { self.new.hosts ≡ self.old.hosts }
-        ensures turns { IfOk result (λ _. self.new.turns.items ≡ self.old.turns.items ++ brought (Send node slot) ∷ []) }
+        ensures { IfOk result (λ _. Planned self.old self.new (Send node slot)) }
     {
         self.add(Call::Send { node, slot })?;
         Ok(())
@@ -133,8 +141,7 @@ impl<'a> Plan<'a> {
 
     // What a slot holds reaches a host.
     pub(crate) fn deliver(&mut self, slot: usize, node: usize) -> Result<(), AllocError>
-        ensures hosts { self.new.hosts ≡ self.old.hosts }
-        ensures turns { IfOk result (λ _. self.new.turns.items ≡ self.old.turns.items ++ brought (Deliver slot node) ∷ []) }
+        ensures { IfOk result (λ _. Planned self.old self.new (Deliver slot node)) }
     {
         self.add(Call::Deliver { slot, node })?;
         Ok(())
@@ -142,19 +149,20 @@ impl<'a> Plan<'a> {
 
     // A slot is dropped.
     pub(crate) fn free(&mut self, slot: usize) -> Result<(), AllocError>
-        ensures hosts { self.new.hosts ≡ self.old.hosts }
-        ensures turns { IfOk result (λ _. self.new.turns.items ≡ self.old.turns.items ++ brought (Drop slot) ∷ []) }
+        ensures { IfOk result (λ _. Planned self.old self.new (Drop slot)) }
     {
         self.add(Call::Drop { slot })?;
         Ok(())
     }
 
     // A host is read; gives the number of the turn, for a comparison.
-    pub(crate) fn read(&mut self, node: usize) -> Result<usize, AllocError>
-        ensures hosts { self.new.hosts ≡ self.old.hosts }
-        ensures number { IfOk result (λ n. n ≡ vec_len self.old.turns) }
-        ensures turns { IfOk result (λ _. self.new.turns.items ≡ self.old.turns.items ++ brought (Read node 2048) ∷ []) }
+    pub(crate) fn read(&mut self, node: usize) -> Result<ReadTurn, AllocError>
+        ensures number { IfOk result (λ turn. turn.0 ≡ vec_len self.old.turns) }
+        ensures planned { IfOk result (λ _. Planned self.old self.new (Read node 2048)) }
     {
-        self.add(Call::Read { node, room: ROOM })
+        Ok(ReadTurn(self.add(Call::Read {
+            node,
+            room: LONGEST,
+        })?))
     }
 }

@@ -1,11 +1,13 @@
 // Plans are played: their turns are made on a network.
-ghost use Rattle.std.specs.Prelude.{◌≡◌, map, replicate, IfOk};
+ghost use Rattle.std.specs.Prelude.{map, IfOk};
 ghost use Rattle.story.specs.Plays.{CameOf};
 
-use crate::plan::{HOSTS, MEMORY, Plan};
+use crate::plan::{HOSTS, Plan};
 use diffusion::answer::Answer;
 use diffusion::fault::RunFault;
 use diffusion::run::run;
+use diffusion::values::empty_values;
+use network::calls::MEMORY;
 use network::table::Network;
 use std::alloc::{AllocError, Global};
 use synopsis::kind::Synopsis;
@@ -17,23 +19,12 @@ pub struct Played<S> {
     pub values: Vec<S>,
 }
 
-// An empty value for each host of the field.
-fn empty_values<S: Synopsis>(heap: Global) -> Result<Vec<S>, AllocError>
-    ensures { IfOk result (λ v. map S.Synopsis.form v.items ≡ replicate 4 S.Synopsis.kind.none) }
-{
-    let mut values = Vec::new(heap);
-    for _ in 0..HOSTS {
-        values.push(S::empty())?;
-    }
-    Ok(values)
-}
-
 // Makes the turns of a plan on a network of so many hosts as it says.
 pub fn play<S: Synopsis>(heap: Global, plan: &Plan<'_>) -> Result<Played<S>, AllocError>
-    ensures { IfOk result (λ p. CameOf S.Synopsis.kind plan.now.hosts plan.now.turns.items p.outcome (map S.Synopsis.form p.values.items)) }
+    ensures { IfOk result (λ p. CameOf S.Synopsis.kind plan.now.hosts plan.now.script.turns.items p.outcome (map S.Synopsis.form p.values.items)) }
 {
     let mut network = Network::new();
-    let mut values = empty_values(heap)?;
+    let mut values = empty_values(heap, HOSTS)?;
     let mut memory = vec![in heap; 0; MEMORY]?;
     let outcome = run(
         heap,
@@ -41,7 +32,7 @@ pub fn play<S: Synopsis>(heap: Global, plan: &Plan<'_>) -> Result<Played<S>, All
         &mut values,
         &mut memory,
         plan.hosts,
-        &plan.turns,
+        &plan.script.turns,
     );
     Ok(Played { outcome, values })
 }

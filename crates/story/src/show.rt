@@ -23,28 +23,48 @@ impl fmt::Display for Shown<'_> {
     }
 }
 
-// The slots from one to another.
+// A slot, or the slots from it to another.
 #[derive(Clone, Copy)]
 struct Slots {
     first: usize,
-    last: usize,
+    last: Option<usize>,
 }
 
 impl fmt::Display for Slots {
     fn fmt<W: fmt::Write>(&self, f: &mut fmt::Formatter<W>) -> fmt::Result {
-        let Slots { first, last } = self;
-        if first == last {
-            return write!(f, "slot {first}");
+        let first = self.first;
+        match self.last {
+            None => write!(f, "slot {first}"),
+            Some(last) => write!(f, "slots {first} to {last}"),
         }
-        write!(f, "slots {first} to {last}")
     }
 }
 
-// What a call asks; equal calls in a row end at the slot `last`.
+// What is asked: one call, or a run of SENDs or of DROPs on one slot after another, which has a last slot.
 #[derive(Clone, Copy)]
 pub(crate) struct Asked<'a> {
-    pub(crate) call: Call<'a>,
-    pub(crate) last: usize,
+    call: Call<'a>,
+    last: Option<usize>,
+}
+
+impl<'a> Asked<'a> {
+    pub(crate) fn new(call: Call<'a>) -> Asked<'a> {
+        Asked { call, last: None }
+    }
+
+    // Both as one, where the next goes on as this ends: the same host sends into the next slot, or the next slot is
+    // dropped.
+    pub(crate) fn joined(self, next: Asked<'a>) -> Option<Asked<'a>> {
+        let (first, slot) = match (self.call, next.call) {
+            (Call::Send { node, slot: first }, Call::Send { node: other, slot }) if node == other =>
+                (first, slot),
+            (Call::Drop { slot: first }, Call::Drop { slot }) => (first, slot),
+            _ => return None,
+        };
+        let wanted = self.last.unwrap_or(first).checked_add(1)?;
+        let last = next.last.or(Some(slot));
+        (wanted == slot).then_some(Asked { last, ..self })
+    }
 }
 
 impl fmt::Display for Asked<'_> {

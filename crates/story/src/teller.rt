@@ -20,11 +20,12 @@ pub trait Compare {
         ensures { Decides result (one.now ≡ other.now) };
 }
 
-// The bytes that a turn read.
-fn bytes_read(answers: &[Answer], turn: usize) -> Option<&[u8]> {
-    match answers.get(turn) {
-        Some(Ok(Some(bytes))) => Some(bytes.as_slice()),
-        _ => None,
+// One byte after another.
+pub struct Bytewise;
+
+impl Compare for Bytewise {
+    fn is_equal(one: &[u8], other: &[u8]) -> bool {
+        one == other
     }
 }
 
@@ -33,7 +34,7 @@ fn remark<C: Compare>(rt: &impl Print, remark: Remark, answers: &[Answer]) -> io
     match remark {
         Remark::Part(heading) => println!(rt; "{heading}"),
         Remark::Compare { one, other } => {
-            let verdict = match (bytes_read(answers, one), bytes_read(answers, other)) {
+            let verdict = match (one.bytes(answers), other.bytes(answers)) {
                 (Some(first), Some(second)) if C::is_equal(first, second) => "equal byte by byte",
                 _ => "not equal",
             };
@@ -69,16 +70,16 @@ fn turns<'a, C: Compare>(
     plan: &'a Plan<'a>,
     answers: &'a [Answer],
 ) -> io::Result<()> {
-    let hosts = plan.hosts;
+    let Plan { hosts, script } = plan;
     println!(rt; "   a network of {hosts} hosts is opened: ok")?;
     let mut from = 0;
-    for note in &plan.notes {
-        lines(rt, &plan.turns, answers, from, note.at)?;
+    for note in &script.notes {
+        lines(rt, &script.turns, answers, from, note.at)?;
         remark::<C>(rt, note.remark, answers)?;
         from = note.at;
     }
-    let planned = plan.turns.len();
-    lines(rt, &plan.turns, answers, from, planned)?;
+    let planned = script.turns.len();
+    lines(rt, &script.turns, answers, from, planned)?;
     let made = answers.len();
     if made == planned {
         return println!(rt; "   {planned} turns, and all of them were made.");
@@ -106,7 +107,7 @@ pub fn tell<S: Synopsis, C: Compare>(
     rt: &(impl Print + AllocGlobal),
     plan: &Plan<'_>,
 ) -> io::Result<Vec<S>>
-    ensures { IfOk result (λ values. Held S.Synopsis.kind plan.now.hosts plan.now.turns.items (map S.Synopsis.form values.items)) }
+    ensures { IfOk result (λ values. Held S.Synopsis.kind plan.now.hosts plan.now.script.turns.items (map S.Synopsis.form values.items)) }
 {
     let played = play::<S>(rt.alloc(), plan)?;
     outcome::<C>(rt, plan, &played.outcome)?;

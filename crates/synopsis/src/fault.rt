@@ -80,7 +80,8 @@ pub enum EncodeFault {
 }
 
 impl EncodeFault {
-    // The number of the refusal.
+    // The number of the refusal. No plainer as one with a reason's: each contract names the definition of its own numbers, and
+    // a trait for both would be longer than the two lines.
     pub fn number(self) -> u8
         ensures { result ≡ encode_number self }
     {

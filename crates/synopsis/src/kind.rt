@@ -4,6 +4,9 @@ ghost use Rattle.synopsis.specs.Kind.{Kind, Laws, overlong, frame_length, encode
 use crate::fault::{DecodeFault, EncodeFault};
 use readings::Reading;
 
+// How many bytes a frame has at most: a kind that may need more is overlong.
+pub const LONGEST: usize = 2048;
+
 // A synopsis: a small mergeable summary of readings, of one kind.
 pub trait Synopsis: Sized + Drop {
     // what the kind means
@@ -32,7 +35,7 @@ pub trait Synopsis: Sized + Drop {
     fn is_overlong() -> bool
         ensures { result ≡ overlong kind }
     {
-        Self::greatest_length() > 2048
+        Self::greatest_length() > LONGEST
     }
 
     // EMPTY

@@ -11,7 +11,7 @@ use Rattle.hex.specs.Hex.{IsBytes, decode_of, decode_pairs, decode_sized, digit_
 use Rattle.hex.specs.declared.error.FromHexError.{FromHexError}
 use Rattle.hex.specs.declared.error.FromHexError.TheVariants.{OutOfMemory}
 use Rattle.hex.proofs.HexLemmas.{decode_of-encode_upper, decode_of-ok, decode_of-even, decode_sized-ok, decode_sized-twice, length-encode_with}
-use Rattle.texts.specs.Texts.{hex_text, ShowsNoBytes, fault_of_hex}
+use Rattle.texts.specs.Texts.{hex_text, word_text, ShowsNoBytes, fault_of_hex}
 use Rattle.texts.specs.declared.fault.Fault.{Fault}
 use Rattle.texts.specs.declared.fault.Fault.TheVariants.{Form, Memory}
 
@@ -150,7 +150,7 @@ IsBytes-word n (suc (suc (suc (suc (suc (suc (suc (suc i)))))))) = omega arith
 
 -- the word that a text shows
 pub hex_text-word : (text bytes : List ℕ) (n : ℕ) → list_any is_ascii_lowercase text ≡ false
-    → decode_sized text 8 ≡ Ok bytes → n ≡ from_be_bytes w64 bytes → hex_text (to_be_bytes w64 n) ≡ text
+    → decode_sized text 8 ≡ Ok bytes → n ≡ from_be_bytes w64 bytes → word_text n ≡ text
 hex_text-word text bytes n large h is =
     let len = decode_sized-ok text 8 bytes h in
     let same : decode_of text ≡ Ok bytes = sym (decode_sized-twice text 8 len) ∙ h in
@@ -159,12 +159,12 @@ hex_text-word text bytes n large h is =
     ap encode_upper (be_bytes_8 bytes n eight ok.3 is) ∙ encode-decode_of text bytes same large
 
 -- no word is shown with a small letter
-pub small_word : (text : List ℕ) → list_any is_ascii_lowercase text ≡ true → (n : ℕ) → hex_text (to_be_bytes w64 n) ≢ text
+pub small_word : (text : List ℕ) → list_any is_ascii_lowercase text ≡ true → (n : ℕ) → word_text n ≢ text
 small_word text small n e = shows_small text small (to_be_bytes w64 n) (IsBytes-word n) e
 
 -- nor as a text that is no word
 pub undecoded_word : (text : List ℕ) (x : FromHexError) → decode_sized text 8 ≡ Err x
-    → (n : ℕ) → hex_text (to_be_bytes w64 n) ≢ text
+    → (n : ℕ) → word_text n ≢ text
 undecoded_word text x bad n e =
     let whole = decode_of-encode_upper (to_be_bytes w64 n) (IsBytes-word n) in
     let len : length text ≡ 16 = ap length (sym e) ∙ length-encode_with upper_digits (to_be_bytes w64 n) in

@@ -1,6 +1,6 @@
 -- The fields of a line as lists of byte values.
 use Rattle.std.specs.Prelude.{◌≡◌, ◌≢◌, ℕ, ◌⊎◌, List, [], ◌∷◌, slice_index, codes}
-use Rattle.std.specs.Int.{IsInRange}
+use Rattle.std.specs.Int.{w64, to_be_bytes, IsInRange}
 use Rattle.hex.specs.Hex.{encode_upper, IsBytes}
 use Rattle.hex.specs.declared.error.FromHexError.{FromHexError}
 use Rattle.hex.specs.declared.error.FromHexError.TheVariants.{OutOfMemory}
@@ -11,6 +11,10 @@ use Rattle.texts.specs.declared.fault.Fault.TheVariants.{Form, Memory}
 abbrev pub hex_text : List ℕ → List ℕ
 hex_text [] = codes "-"
 hex_text (b ∷ rest) = encode_upper (b ∷ rest)
+
+-- a word of 8 bytes, as text
+abbrev pub word_text : ℕ → List ℕ
+word_text n = hex_text (to_be_bytes w64 n)
 
 -- no bytes are shown so
 abbrev pub ShowsNoBytes : List ℕ → Type 0

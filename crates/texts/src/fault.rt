@@ -1,10 +1,11 @@
 ghost use Rattle.std.specs.Prelude.{◌≡◌};
 ghost use Rattle.hex.specs.declared.error.FromHexError.TheVariants.{OutOfMemory};
-ghost use Rattle.texts.specs.declared.fault.Fault.TheVariants.{Memory};
+ghost use Rattle.texts.specs.declared.fault.Fault.TheVariants.{Form, Memory};
 ghost use Rattle.texts.specs.Texts.{fault_of_hex};
 
 use hex::FromHexError;
 use std::alloc::{AllocError, AllocFailed};
+use std::num::TryFromIntError;
 use thiserror::Error;
 
 // Why a line has no answer.
@@ -31,6 +32,14 @@ impl<T: Drop> From<AllocFailed<T>> for Fault {
 
     fn from(_e: AllocFailed<T>) -> Fault {
         Fault::Memory
+    }
+}
+
+impl From<TryFromIntError> for Fault {
+    ghost from_gives = { λ _ r. r ≡ Form };
+
+    fn from(_e: TryFromIntError) -> Fault {
+        Fault::Form
     }
 }
 

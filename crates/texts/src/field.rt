@@ -3,8 +3,7 @@ ghost use Rattle.std.specs.Prelude.{◌≡◌, ◌≢◌, ℕ, ◌^◌, ◌<◌,
 ghost use Rattle.std.specs.List.{list_any};
 ghost use Rattle.std.specs.Char.{is_ascii_lowercase};
 ghost use Rattle.std.specs.Fmt.{decimal};
-ghost use Rattle.std.specs.Int.{w64, to_be_bytes};
-ghost use Rattle.texts.specs.Texts.{hex_text, IsPlain, ShowsNoBytes};
+ghost use Rattle.texts.specs.Texts.{hex_text, word_text, IsPlain, ShowsNoBytes};
 
 use crate::fault::Fault;
 use hex::FromHex;
@@ -33,18 +32,16 @@ pub fn bytes(heap: Global, text: &str) -> Result<Vec<u8>, Fault>
 
 // The number that 8 bytes write, the high one first.
 pub fn word(text: &str) -> Result<u64, Fault>
-    ensures shown { IfOk result (λ n. hex_text (to_be_bytes w64 n) ≡ text.now) }
+    ensures shown { IfOk result (λ n. word_text n ≡ text.now) }
     ensures refused { IfErr result (λ e. (e ≡ Fault.Form)
-        × ((n : ℕ) → n < 2 ^ 64 → hex_text (to_be_bytes w64 n) ≢ text.now)) }
+        × ((n : ℕ) → n < 2 ^ 64 → word_text n ≢ text.now)) }
 {
     if has_small(text) {
         return Err(Fault::Form);
     }
-    // A match: behind `map_err` and `?` the proof of what is shown and refused did not close.
-    match <[u8; 8]>::from_hex(text) {
-        Ok(found) => Ok(u64::from_be_bytes(found)),
-        Err(_) => Err(Fault::Form),
-    }
+    <[u8; 8]>::from_hex(text)
+        .map(u64::from_be_bytes)
+        .map_err(|_| Fault::Form)
 }
 
 // Whether a text is a zero, or begins with another digit.

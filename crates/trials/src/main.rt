@@ -6,10 +6,10 @@ use cases::hashes::HashCase;
 use cases::kinds::full;
 use least::row::LeastValues;
 use std::alloc::Global;
-use std::io::{BufRead, BufReader};
+use std::io;
 use texts::fault::Fault;
 use texts::field::word;
-use texts::line::answered;
+use texts::line::{answer_lines, answered};
 
 const MOST_ROOM: u64 = 1024;
 
@@ -31,12 +31,7 @@ fn answer(heap: Global, line: &str) -> Result<String, Fault> {
     Ok(text)
 }
 
-// The loop over lines stands in each such program: shared, it would ask that a closure may be called.
-fn main(rt: HostRuntime) -> anyhow::Result<()> {
+fn main(rt: HostRuntime) -> io::Result<()> {
     let heap = rt.alloc();
-    for line in BufReader::new(heap, rt.stdin())?.lines(heap) {
-        let text = line?;
-        rt.println(answered(heap, answer(heap, text.as_str()))?)?;
-    }
-    Ok(())
+    answer_lines(&rt, |line| answered(heap, answer(heap, line)))
 }

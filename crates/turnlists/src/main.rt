@@ -3,18 +3,16 @@
 
 use least::row::LeastValues;
 use lists::answer::{MEMORY, VALUES, answer, told};
-use std::io::{BufRead, BufReader};
+use std::io;
 use synopsis::kind::Synopsis;
+use texts::line::answer_lines;
 
 // Values and memory are the same for all lists, so a list opens its network on what the one before left.
-fn main(rt: HostRuntime) -> anyhow::Result<()> {
+fn main(rt: HostRuntime) -> io::Result<()> {
     let heap = rt.alloc();
     let mut values = [LeastValues::empty(); VALUES];
     let mut memory: Vec<u8> = vec![in heap; 0; MEMORY]?;
-    for line in BufReader::new(heap, rt.stdin())?.lines(heap) {
-        let text = line?;
-        let outcome = answer(heap, &mut values, memory.as_mut_slice(), text.as_str());
-        rt.println(told(heap, outcome)?)?;
-    }
-    Ok(())
+    answer_lines(&rt, |line| {
+        told(heap, answer(heap, &mut values, memory.as_mut_slice(), line))
+    })
 }

@@ -1,10 +1,13 @@
-use Rattle.std.proofs.Common.{◌≡◌, ◌+◌, ◌-◌, sym, ◌∙◌, arith}
-use Rattle.cases.proofs.Items.{one_item}
+use Rattle.std.proofs.Common.{rules, ap, ◌∙◌, arith}
+use Rattle.cases.specs.Values.{items_form}
+use Rattle.cases.proofs.Items.{folded_items}
 use Rattle.cases.proofs.value.items.Goals as goal
 
-pub loop-preserved : goal.loop-preserved
-loop-preserved g c =
-    let left : c.args.count - c.loop.counter ≡ c.args.count - (c.loop.counter + 1) + 1 = omega arith in
-    let k = g.S.Synopsis.kind in
-    rw (c.fuse.ensures, c.single.ensures)
-    (sym (one_item k c.loop.item c.args.step _ _ _ left) ∙ c.loop.invariant)
+pub returns : goal.returns
+returns g c =
+    let s = g.S.Synopsis in
+    let first = c.args.first in
+    let step = c.args.step in
+    folded_items s.kind s.form _ _ first step c.args.count _ _ (omega (arith, c.ranges.first)) c.fold.ensures.ran
+    (λ v x w q call. search rules)
+    ∙ ap (items_form s.kind first step c.args.count) c.empty.ensures

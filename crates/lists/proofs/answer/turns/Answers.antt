@@ -1,13 +1,8 @@
-use Rattle.std.proofs.Common.{[], sym, ◌∙◌, subst}
-use Rattle.std.proofs.lemmas.List.{get_or_default}
-use Rattle.lists.specs.Plans as plans
-use Rattle.lists.specs.Plans.{Written}
-use Rattle.lists.proofs.Listing.{written_more}
+use Rattle.std.proofs.Common.{rules}
+use Rattle.std.proofs.lemmas.Result.{IfOk-weaker}
+use Rattle.lists.specs.Plans.{Plans}
+use Rattle.lists.proofs.Listing.{try_collected, written_all}
 use Rattle.lists.proofs.answer.turns.Goals as goal
 
-pub loop-plan-init : goal.loop-plan-init
-loop-plan-init c = subst (Written []) (sym c.in_ok-turns.ensures.items) plans.Written.none
-
-pub loop-plan-preserved : goal.loop-plan-preserved
-loop-plan-preserved c =
-    written_more c.args.list.now c.loop-plan.plan-index c.plan-item.result c.loop-plan-test.true (c.plan-item.is ∙ get_or_default c.args.list.now c.loop-plan.plan-index _ _ c.loop-plan-test.true) c.in-Call.call c.loop-plan.turns.items c.push.new.self.items c.as_turn.result c.in-Call.is c.as_turn.ensures c.loop-plan.invariant c.in_ok-push.ensures.items
+pub returns : goal.returns
+returns c = IfOk-weaker c.try_collect.result _ _ (λ v. written_all c.args.list.now v.items) (try_collected c.try_collect.result c.args.list.now (λ p t. Plans p.front p.step t) c.try_collect.ensures.runs (search rules))

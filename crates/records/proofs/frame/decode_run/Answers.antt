@@ -4,7 +4,7 @@ use Rattle.runs.specs.Runs.{first_fall}
 use Rattle.runs.proofs.Forms.{fall_inside, rising_if_none}
 use Rattle.records.specs.RunKind.{rising_or}
 use Rattle.records.proofs.RunLaws.{in_order, frame_in_order}
-use Rattle.records.proofs.Decoding.{placed_after, fall_fits}
+use Rattle.records.proofs.Decoding.{fall_fits}
 use Rattle.records.proofs.frame.decode_run.Given as given
 use Rattle.records.proofs.frame.decode_run.Goals as goal
 use Rattle.records.proofs.frame.decode_run.Goals.{In-Some}
@@ -29,18 +29,8 @@ overflow_mul-i g c =
 pub overflow_add-i : goal.overflow_add-i
 overflow_add-i g c = let fits = fall_place g c in search rules
 
-pub returns-in-Some : goal.returns-in-Some
-returns-in-Some g c =
-    let p = c.in_ok-count.ensures in
-    let after = c.decode_records.new.out in
-    let le : c.in_ok-count.count ≤ length after = omega (arith, p.within, c.decode_records.auto.out) in
-    record {
-      answer = search rules;
-      after = placed_after c.args.kind 0 (length c.args.out.now) g.E.Record.layout c.args.frame.now c.args.out.now after c.in_ok-count.count p le;
-    }
-
-pub returns-in-None : goal.returns-in-None
-returns-in-None g c =
+pub returns-clause-answer : goal.returns-clause-answer
+returns-clause-answer g c =
     let order = g.E.Ord.cmp in
     let layout = g.E.Record.layout in
     let most = length c.args.out.now in
@@ -48,16 +38,11 @@ returns-in-None g c =
     let n = c.in_ok-count.count in
     let after = c.decode_records.new.out in
     let items = take n after in
-    let le : n ≤ length after = omega (arith, p.within, c.decode_records.auto.out) in
     let z : n - 0 ≡ n = omega arith in
-    let none : first_fall order items ≡ None = sym (c.in-None.ensures ∙ ap (λ (k : ℕ). first_fall order (take k after)) z) in
-    record {
-      answer = (
-        p.within,
-        frame_in_order c.args.kind most layout order c.args.frame.now ∙ ap (in_order c.args.kind most layout order) p.reads ∙ ap (rising_or c.args.kind most layout order items) none,
-        rising_if_none order items none,
-        p.back,
-        p.rest,
-      );
-      after = placed_after c.args.kind 0 most layout c.args.frame.now c.args.out.now after n p le;
-    }
+    let none : first_fall order items ≡ None = sym (c.in_default.ensures ∙ ap (λ (k : ℕ). first_fall order (take k after)) z) in (
+      p.within,
+      frame_in_order c.args.kind most layout order c.args.frame.now ∙ ap (in_order c.args.kind most layout order) p.reads ∙ ap (rising_or c.args.kind most layout order items) none,
+      rising_if_none order items none,
+      p.back,
+      p.rest,
+    )

@@ -12,9 +12,8 @@ returns-then-out-end g c =
     let layout = g.E.Record.layout in
     let items = c.args.items.now in
     let frame = frame_of c.args.kind layout items in
-    let w : length items * c.width.result ≡ length items * layout.width = ap (λ (n : ℕ). length items * n) c.width.ensures in
     let long : length frame ≡ 4 + length items * layout.width = length_of_frame layout g.met.E.Record.readable c.args.kind items in
-    let lt : length c.args.out.now < length frame = omega (arith, c.if-out-end.true, long, w) in
+    let lt : length c.args.out.now < length frame = omega (arith, c.if-out-end.true, long, c.run_length-end.ensures) in
     record { answer = fitted_not frame (length c.args.out.now) lt; after = over_not frame c.args.out.now lt }
 
 pub returns : goal.returns
@@ -24,17 +23,16 @@ returns g c =
     let out = c.args.out.now in
     let frame = frame_of c.args.kind layout items in
     let header = header_bytes c.args.kind (length items) (end_of layout (length items)) in
-    let w : length items * c.width.result ≡ length items * layout.width = ap (λ (n : ℕ). length items * n) c.width.ensures in
     let long : length frame ≡ 4 + length items * layout.width = length_of_frame layout g.met.E.Record.readable c.args.kind items in
-    let le : length frame ≤ length out = omega (arith, c.if-out-end.false, long, w) in
-    let end : 4 + length items * c.width.result ≡ length frame = omega (arith, long, w) in
+    let end : c.run_length-end.result ≡ length frame = omega (arith, long, c.run_length-end.ensures) in
+    let le : length frame ≤ length out = omega (arith, c.if-out-end.false, end) in
     let h : c.copy_from_slice.new.self ≡ header =
-    c.copy_from_slice.ensures.after ∙ c.header_bytes-header.ensures ∙ ap (λ (n : ℕ). header_bytes c.args.kind (length items) (4 + n)) w in
+    c.copy_from_slice.ensures.after ∙ c.header_bytes-header.ensures ∙ ap (header_bytes c.args.kind (length items)) c.run_length-end.ensures in
     let b : c.put_all.new.out ≡ flat_map layout.written items = c.put_all.ensures in
-    let body : 4 + length c.put_all.new.out ≡ 4 + length items * c.width.result = omega (arith, ap length b, long, w) in
+    let body : 4 + length c.put_all.new.out ≡ c.run_length-end.result = omega (arith, ap length b, long, end) in
     record {
       answer = ap Ok end ∙ fitted_so frame (length out) le;
-      after = framed c.copy_from_slice.new.self c.put_all.new.out out (4 + length items * c.width.result) _ (ap length h) body refl
+      after = framed c.copy_from_slice.new.self c.put_all.new.out out c.run_length-end.result _ (ap length h) body refl
           ∙ ap (λ (n : ℕ). (c.copy_from_slice.new.self ++ c.put_all.new.out) ++ drop n out) end
           ∙ ap (λ (l : List ℕ). (l ++ c.put_all.new.out) ++ drop (length frame) out) h
           ∙ ap (λ (l : List ℕ). (header ++ l) ++ drop (length frame) out) b

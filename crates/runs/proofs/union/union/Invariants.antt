@@ -3,9 +3,8 @@ use Rattle.runs.specs.Union.{merge}
 use Rattle.runs.proofs.union.union.Given as goal
 
 -- what is written and the union of what is left are the whole union
-abbrev pub invariant-loop-place : goal.invariant-loop-place
-invariant-loop-place g l = record {
-  counted : l.n ≡ l.place-index;
+abbrev pub invariant-loop-n : goal.invariant-loop-n
+invariant-loop-n g l = record {
   union : take l.n l.out ++ merge g.E.Ord.cmp l.left l.right ≡ merge g.E.Ord.cmp l.a l.b;
   rest : drop l.n l.out ≡ drop l.n l.initial.out;
 }

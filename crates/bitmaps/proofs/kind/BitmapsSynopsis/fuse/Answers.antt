@@ -1,17 +1,8 @@
-use Rattle.std.proofs.Common.{◌≡◌, ℕ, ◌<◌, ◌≤◌, List, [], ◌++◌, length, take, drop, sym, ap, ◌∙◌, arith, rules}
-use Rattle.std.proofs.lemmas.List.{length-set, take_all, drop_all, append-nil}
+use Rattle.std.proofs.Common.{◌≡◌, ℕ, ◌≤◌, List, [], ◌++◌, length, take, drop, sym, ap, ◌∙◌, arith, rules}
+use Rattle.std.proofs.lemmas.List.{take_all, drop_all, append-nil}
 use Rattle.bitmaps.specs.Bitmaps.{as_maps, or_maps}
 use Rattle.bitmaps.specs.Forms.{kept}
-use Rattle.bitmaps.specs.Ors.{or_more}
 use Rattle.bitmaps.proofs.kind.BitmapsSynopsis.fuse.Goals as goal
-
-pub loop-i-preserved : goal.loop-i-preserved
-loop-i-preserved c =
-    let mine : c.loop-i.i < length c.loop-i.self.maps = search rules in
-    let theirs : c.loop-i.i < length c.args.other.now.maps = search rules in (
-      length-set c.loop-i.self.maps c.loop-i.i _ ∙ c.loop-i.invariant.0,
-      or_more c.loop-i.self.maps c.args.other.now.maps (or_maps c.args.self.now.maps c.args.other.now.maps) c.loop-i.i mine theirs c.loop-i.invariant.1,
-    )
 
 pub returns : goal.returns
 returns c =

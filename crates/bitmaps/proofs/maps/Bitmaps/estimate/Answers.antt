@@ -1,16 +1,13 @@
 use Rattle.std.proofs.Common.{◌≡◌, ℕ, ◌*◌, ◌/◌, ◌%◌, ◌^◌, ◌≤◌, length, sym, ap, ◌∙◌, arith, rules}
-use Rattle.std.proofs.lemmas.Bool.{cond-true, cond-false}
+use Rattle.std.proofs.lemmas.Bool.{cond-false}
 use Rattle.bitmaps.specs.Bitmaps.{bitmaps_form, none_set, scaled, eighth_root}
 use Rattle.bitmaps.specs.Forms.{kept}
 use Rattle.bitmaps.proofs.LowestZeros.{sum_small}
 use Rattle.bitmaps.proofs.Roots.{root_below, root_one, root_greatest}
 use Rattle.bitmaps.proofs.maps.Bitmaps.estimate.Goals as goal
 
-pub returns-then-is_blank : goal.returns-then-is_blank
-returns-then-is_blank c =
-    let long : length c.args.self.now.maps ≡ 64 = search rules in
-    let none = ap none_set (kept c.args.self.now.maps long) ∙ sym c.if-is_blank.ensures in
-    record { value = sym (cond-true _ _ _ none); roots = root_greatest }
+pub returns-then-is_blank-clause-roots : goal.returns-then-is_blank-clause-roots
+returns-then-is_blank-clause-roots c = root_greatest
 
 pub scale-requires : goal.scale-requires
 scale-requires c =

@@ -1,4 +1,4 @@
-use Rattle.std.proofs.Common.{◌≡◌, ℕ, IfOk, length, take, replicate, refl, ap, sym, subst, ◌∙◌, arith}
+use Rattle.std.proofs.Common.{◌≡◌, ℕ, length, take, replicate, refl, ap, sym, subst, ◌∙◌, arith}
 use Rattle.std.specs.Result.{IsOk}
 use Rattle.least.specs.Least.{least_kind, least_form}
 use Rattle.least.specs.Forms.{least_laws}
@@ -16,5 +16,4 @@ returns c =
     let ok = c.encode.ensures.answer ∙ encode_ok least_kind least_laws refl x (replicate 516 0) (omega arith) in
     let u = c.unwrap-length.ensures in
     let n : c.unwrap-length.result ≡ length (least_kind.encoding x) = cc in
-    let front = ap (λ (k : ℕ). take k c.encode.new.out) n ∙ ap (take (length (least_kind.encoding x))) c.encode.ensures.after ∙ encode_front least_kind least_laws refl x (replicate 516 0) (omega arith) in
-    subst (λ bytes. IfOk c.from_slice.result (λ v. v.items ≡ bytes)) front c.from_slice.ensures.items
+    c.truncate.ensures.items ∙ ap (take c.unwrap-length.result) c.from-frame.ensures.0 ∙ ap (λ (k : ℕ). take k c.encode.new.out) n ∙ ap (take (length (least_kind.encoding x))) c.encode.ensures.after ∙ encode_front least_kind least_laws refl x (replicate 516 0) (omega arith)

@@ -7,4 +7,4 @@ use Rattle.least.proofs.kind.LeastValuesSynopsis.length.Goals as goal
 
 pub returns : goal.returns
 returns c =
-    slice_length 2 number_layout number_readable c.as_slice.result.now (least_form c.args.self.now).items (c.as_slice.ensures ∙ c.of-run.ensures)
+    c.run_length.ensures ∙ slice_length 2 number_layout number_readable c.as_slice.result.now (least_form c.args.self.now).items (c.as_slice.ensures ∙ c.of.ensures)

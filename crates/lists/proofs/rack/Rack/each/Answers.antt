@@ -1,15 +1,15 @@
 use Rattle.std.proofs.Common.{[], map, List, sym, ap, ◌∙◌, subst}
 use Rattle.std.proofs.lemmas.List.{get_or_default}
-use Rattle.diffusion.specs.Turns.{Told, tells, state_of}
+use Rattle.diffusion.specs.Turns.{Told, tells}
 use Rattle.lists.specs.Plans as plans
-use Rattle.lists.specs.Plans.{Stepped}
+use Rattle.lists.specs.Plans.{rack_state, Stepped}
 use Rattle.lists.proofs.Listing.{stepped_more}
 use Rattle.lists.proofs.rack.Rack.each.Goals as goal
 
 pub loop-plan-init : goal.loop-plan-init
 loop-plan-init g c =
     let k = g.S.Synopsis.kind in
-    let st = state_of k g.S.Synopsis.form c.args.self.now.network c.args.self.now.values.now c.args.self.now.memory.now in
+    let st = rack_state k g.S.Synopsis.form c.args.self.now in
     subst (λ (l : List Told). Stepped k [] l st st) (sym (ap (map tells) c.in_ok-answers.ensures.items)) plans.Stepped.none
 
 pub loop-plan-preserved : goal.loop-plan-preserved

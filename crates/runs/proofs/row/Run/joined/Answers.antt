@@ -16,4 +16,4 @@ invariant_of-result g c =
     let other = slice_rises order blank k b.row.count b.row.places b.kept c.as_slice-2.result.now c.as_slice-2.ensures in
     let long : length c.union-count.new.out ≡ k = c.union-count.auto.out ∙ length-replicate k d in
     let few : c.union-count.result ≤ k = rw e.count (simp (length-replicate, length-take) (omega arith)) in
-    record { kept = fresh_row order blank k c.union-count.result c.union-count.new.out long d (g.met.E.Element.fresh d c.default-places.ensures) few (e.least one other).rises e.same }
+    record { kept = fresh_row order blank k c.union-count.result c.union-count.new.out long d (g.met.E.Fresh.fresh d c.default-places.ensures) few (e.least one other).rises e.same }

@@ -7,4 +7,4 @@ use Rattle.sample.proofs.kind.SampleSynopsis.length.Goals as goal
 
 pub returns : goal.returns
 returns c =
-    slice_length 3 sample_layout sample_readable c.as_slice.result.now (sample_form c.args.self.now).items (c.as_slice.ensures ∙ c.of-run.ensures)
+    c.run_length.ensures ∙ slice_length 3 sample_layout sample_readable c.as_slice.result.now (sample_form c.args.self.now).items (c.as_slice.ensures ∙ c.of.ensures)

@@ -1,0 +1,43 @@
+-- How outcomes are told: the bytes of their text.
+use Rattle.std.specs.Prelude.{ℕ, List, ◌++◌, Ok, Err, codes}
+use Rattle.std.specs.List.{flat_map}
+use Rattle.std.specs.Fmt.{decimal}
+use Rattle.network.specs.declared.fault.NetworkFault.{NetworkFault}
+use Rattle.network.specs.declared.fault.NetworkFault.TheVariants.{Synopsis}
+use Rattle.network.specs.Faults.{fault_number}
+use Rattle.diffusion.specs.Turns.{Told, done, bytes, refused, TurnAnswer, tells}
+use Rattle.texts.specs.Texts.{hex_text}
+use Rattle.lists.specs.declared.counts.Counts.{Counts}
+use Rattle.lists.specs.declared.outcome.Outcome.{Outcome}
+use Rattle.lists.specs.declared.outcome.Outcome.TheVariants.{Run, Each, Long}
+
+-- a refusal is its number, and of bytes that are no frame also their place and the kind that refused them
+abbrev pub no_text : NetworkFault → List ℕ
+no_text (Synopsis e) = codes "no " ++ decimal (fault_number (Synopsis e)) ++ codes "/" ++ decimal e.place ++ codes "/" ++ decimal e.kind
+no_text e = codes "no " ++ decimal (fault_number e)
+
+abbrev pub told_text : Told → List ℕ
+told_text done = codes "ok"
+told_text (bytes bs) = hex_text bs
+told_text (refused e) = no_text e
+
+-- each answer behind a semicolon
+abbrev pub answer_text : TurnAnswer → List ℕ
+answer_text a = codes ";" ++ told_text (tells a)
+
+abbrev pub answers_text : List TurnAnswer → List ℕ
+answers_text answers = flat_map answer_text answers
+
+-- a number before a comma
+abbrev pub count_text : ℕ → List ℕ
+count_text n = decimal n ++ codes ","
+
+-- how many calls were accepted, how many were refused with each number from 1 on, and the sum
+abbrev pub counts_text : Counts → List ℕ
+counts_text c = count_text c.accepted ++ flat_map count_text c.refused ++ decimal c.sum
+
+abbrev pub outcome_text : Outcome → List ℕ
+outcome_text (Run (Ok answers)) = codes "ok" ++ answers_text answers.items
+outcome_text (Run (Err e)) = no_text e
+outcome_text (Each answers) = codes "new" ++ answers_text answers.items
+outcome_text (Long counts ends) = counts_text counts ++ answers_text ends.items
