@@ -4,11 +4,10 @@
 mod store;
 
 use lists::answer::told;
-use std::io;
 use store::Store;
 use texts::line::answer_lines;
 
-fn main(rt: HostRuntime) -> io::Result<()> {
+fn main(rt: HostRuntime) -> anyhow::Result<()> {
     let heap = rt.alloc();
     let mut store = Store::new(heap)?;
     answer_lines(&rt, |line| told(heap, store.outcome(line)))

@@ -12,7 +12,6 @@ use least::row::LeastValues;
 use pile::{FourSamples, StandardPile};
 use sample::row::Sample;
 use std::alloc::Global;
-use std::io;
 use texts::fault::Fault;
 use texts::field::{number, word};
 use texts::line::{answer_lines, answered};
@@ -45,7 +44,7 @@ fn answer(heap: Global, line: &str) -> Result<String, Fault> {
     }
 }
 
-fn main(rt: HostRuntime) -> io::Result<()> {
+fn main(rt: HostRuntime) -> anyhow::Result<()> {
     let heap = rt.alloc();
     answer_lines(&rt, |line| answered(heap, answer(heap, line)))
 }

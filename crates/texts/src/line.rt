@@ -4,7 +4,7 @@ ghost use Rattle.std.specs.String.{string_bytes};
 
 use crate::fault::Fault;
 use std::alloc::{AllocError, Global};
-use std::io::{self, BufRead, BufReader};
+use std::io::{BufRead, BufReader};
 
 // The answer to a line, which is that the line is bad where it is no case.
 pub fn answered(heap: Global, answer: Result<String, Fault>) -> Result<String, AllocError>
@@ -22,7 +22,7 @@ pub fn answered(heap: Global, answer: Result<String, Fault>) -> Result<String, A
 pub fn answer_lines<F: FnMut(&str) -> Result<String, AllocError>>(
     rt: &(impl Input + Print + AllocGlobal),
     mut answer: F,
-) -> io::Result<()>
+) -> anyhow::Result<()>
     requires { F.IsAlwaysCallable answer }
 {
     for line in BufReader::new(rt.alloc(), rt.reader())?.lines(rt.alloc()) {

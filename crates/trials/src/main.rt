@@ -6,7 +6,6 @@ use cases::hashes::HashCase;
 use cases::kinds::full;
 use least::row::LeastValues;
 use std::alloc::Global;
-use std::io;
 use texts::fault::Fault;
 use texts::field::word;
 use texts::line::{answer_lines, answered};
@@ -31,7 +30,7 @@ fn answer(heap: Global, line: &str) -> Result<String, Fault> {
     Ok(text)
 }
 
-fn main(rt: HostRuntime) -> io::Result<()> {
+fn main(rt: HostRuntime) -> anyhow::Result<()> {
     let heap = rt.alloc();
     answer_lines(&rt, |line| answered(heap, answer(heap, line)))
 }

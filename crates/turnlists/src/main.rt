@@ -3,12 +3,11 @@
 
 use least::row::LeastValues;
 use lists::answer::{MEMORY, VALUES, answer, told};
-use std::io;
 use synopsis::kind::Synopsis;
 use texts::line::answer_lines;
 
 // Values and memory are the same for all lists, so a list opens its network on what the one before left.
-fn main(rt: HostRuntime) -> io::Result<()> {
+fn main(rt: HostRuntime) -> anyhow::Result<()> {
     let heap = rt.alloc();
     let mut values = [LeastValues::empty(); VALUES];
     let mut memory: Vec<u8> = vec![in heap; 0; MEMORY]?;
