@@ -41,6 +41,7 @@ impl Synopsis for Bitmaps {
     fn make(reading: Reading) -> Self {
         let (bucket, rank) = mark(reading.hash());
         let mut maps = [0; 64];
+        // By `as`: a bucket is below 64, and `usize` has no `From<u32>`.
         maps[bucket as usize] = bit(rank);
         Bitmaps { maps }
     }

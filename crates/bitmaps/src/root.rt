@@ -7,7 +7,8 @@ pub(crate) fn eighth_root(j: u32) -> u64
     ensures { EighthRoot j result }
 {
     let most: u64 = 1 << (j + 48);
-    // A search that goes up from 64, at most some fifty steps; as a chain, `take_while(..).last()`, it is no plainer.
+    // A search up from 64, at most some fifty steps, as the rule of t reads; as a chain, `take_while(..).last()`, or by three
+    // `isqrt` it is no plainer, since neither shows the rule.
     let mut t: u64 = 64;
     while (t + 1).pow(8) <= most {
         t += 1;

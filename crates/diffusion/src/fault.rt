@@ -16,6 +16,7 @@ pub enum RunFault {
     Memory(Vec<Answer>),
 }
 
+// By hand: of the text that a derive of `thiserror` writes no contract says what it is.
 impl fmt::Display for RunFault {
     ghost output = { λ e. Some (run_fault_text e) };
 

@@ -13,7 +13,7 @@ use std::alloc::Global;
 use synopsis::kind::Synopsis;
 
 // Opens a network, whatever it and its values and memory held, and makes the turns in their order; the answers are
-// those of all turns.
+// those of all turns, or where memory is wanting of those that were made.
 pub fn run<S: Synopsis>(
     heap: Global,
     network: &mut Network,

@@ -2,7 +2,7 @@ ghost use Rattle.std.specs.Prelude.{◌≡◌, ◌%◌, ◌^◌, ◌<◌, length
 ghost use Rattle.std.specs.List.{AllByRecursion};
 ghost use Rattle.frames.specs.Numbers.{low_bytes, from_bytes};
 
-// The number that bytes write, highest first, modulo 2^64.
+// The number that bytes write, highest first, modulo 2^64: of any number of bytes, where `from_be_bytes` has eight.
 pub fn get_number(bytes: &[u8]) -> u64
     ensures value { result ≡ from_bytes bytes.now % 2 ^ 64 }
     ensures small { AllByRecursion (λ b. b < 256) bytes.now }
@@ -21,6 +21,7 @@ pub fn put_number(out: &mut [u8], n: u64)
     let mut rest = n;
     // By index: after a loop over `iter_mut().rev()` a proof knows how many bytes there are, and none of them.
     for i in (0..out.len()).rev() {
+        // By `as`, behind a remainder.
         out[i] = (rest % 256) as u8;
         rest /= 256;
     }

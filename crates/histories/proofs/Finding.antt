@@ -12,11 +12,6 @@ pub did_le : {h : History} {i : ℕ} {d : Deed} → Did h i d → i ≤ length h
 did_le newest = omega arith
 did_le (before a) = let le = did_le a in omega arith
 
--- turns are counted from 1
-pub did_pos : {h : History} {i : ℕ} {d : Deed} → Did h i d → 0 < i
-did_pos newest = omega arith
-did_pos (before a) = did_pos a
-
 -- what an older turn did, it did before the newest
 older : {e d : Deed} {h : History} {i : ℕ} → Did (e ∷ h) i d → i ≤ length h → Did h i d
 older newest le = absurd (omega arith)
@@ -25,11 +20,6 @@ older (before a) le = a
 the_newest : {e d : Deed} {h : History} {i : ℕ} → Did (e ∷ h) i d → length h < i → e ≡ d
 the_newest newest lt = refl
 the_newest (before a) lt = let le = did_le a in absurd (omega arith)
-
--- a turn did one thing
-pub did_once : {h : History} {i : ℕ} {d e : Deed} → Did h i d → Did h i e → d ≡ e
-did_once newest b = the_newest b (omega arith)
-did_once (before a) b = did_once a (older b (did_le a))
 
 none_did : {i : ℕ} {d : Deed} → Did [] i d → ⊥
 none_did a = elim a [ ]
@@ -74,11 +64,6 @@ nothing_other q = let z : ◌≡◌ {A = ℕ} 0 1 = cc in omega arith
 pub path_turns : {h : History} {t n j : ℕ} → Path h t n j → (t ≤ j) × (j ≤ length h)
 path_turns (start a) = let le = did_le a in (omega arith, le)
 path_turns (hop p ik a kj d u) = let on = path_turns p in let le = did_le d in (omega arith, le)
-
--- a path starts at a contribution
-pub reach_gave : (h : History) {t n j : ℕ} → Path h t n j → (m : ℕ) × (g : Gift) × Did h t (gave m g)
-reach_gave h (start {n = m} {g = g} a) = (m, g, a)
-reach_gave h (hop p ik a kj d u) = reach_gave h p
 
 -- a path is one of a longer history, and, where its last turn has come, of a shorter one
 path_up : {e : Deed} {h : History} {t n j : ℕ} → Path h t n j → Path (e ∷ h) t n j
@@ -195,14 +180,6 @@ mutual
       (λ q. carried_up (dropped_other r s q) (carried_found h s t (sym (cond-false (eqb r s) false (carries h s t) q) ∙ e)))
       (cases_Bool (eqb r s))
   carried_found (nothing ∷ h) s t e = carried_up nothing_other (carried_found h s t e)
-
--- nothing reaches a node before it is given
-pub reaches_le : (h : History) (n t : ℕ) → reaches h n t ≡ true → t ≤ length h
-reaches_le h n t e = let f = found h n t e in let turns = path_turns f.1 in omega arith
-
--- and no slot carries it before
-pub carries_le : (h : History) (s t : ℕ) → carries h s t ≡ true → t ≤ length h
-carries_le h s t e = let c = carried_found h s t e in let turns = path_turns c.path in omega arith
 
 -- What is there the search finds
 

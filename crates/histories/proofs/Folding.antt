@@ -40,15 +40,6 @@ module _ (k : Kind) where
   fold_same p q (dropped r ∷ h) same = fold_same p q h (λ t le. same t (omega arith))
   fold_same p q (nothing ∷ h) same = fold_same p q h (λ t le. same t (omega arith))
 
-  -- a test that nothing passes leaves the empty form
-  pub fold_none : (h : History) → fold_over k (λ t. false) h ≡ k.none
-  fold_none [] = refl
-  fold_none (gave m g ∷ h) = fold_none h
-  fold_none (sent m r ∷ h) = fold_none h
-  fold_none (delivered r m ∷ h) = fold_none h
-  fold_none (dropped r ∷ h) = fold_none h
-  fold_none (nothing ∷ h) = fold_none h
-
   -- a contribution at a node is joined to what that node holds
   pub gave_here : (h : History) (m : ℕ) (g : Gift) → node_form k (gave m g ∷ h) m ≡ k.join (node_form k h m) (gift_form k g)
   gave_here h m g =
@@ -73,10 +64,6 @@ module _ (k : Kind) where
   pub gave_slot : (h : History) (m : ℕ) (g : Gift) (s : ℕ) → slot_form k (gave m g ∷ h) s ≡ slot_form k h s
   gave_slot h m g s = cond-false (carries h s (suc (length h))) _ _ (carries_late h s (suc (length h)) (omega arith)) ∙ fold_same (carries (gave m g ∷ h) s) (carries h s) h (λ t le. refl)
 
-  -- a send leaves every node as it was
-  pub sent_node : (h : History) (m r n : ℕ) → node_form k (sent m r ∷ h) n ≡ node_form k h n
-  sent_node h m r n = refl
-
   -- its slot has a frame of what the sender holds
   pub sent_here : (h : History) (m s : ℕ) → slot_form k (sent m s ∷ h) s ≡ node_form k h m
   sent_here h m s = fold_same (carries (sent m s ∷ h) s) (reaches h m) h (λ t le. cond-true (eqb s s) _ _ (eq-eqb s s refl))
@@ -89,27 +76,8 @@ module _ (k : Kind) where
   pub delivered_else : (h : History) (s m n : ℕ) → (m ≡ n → ⊥) → node_form k (delivered s m ∷ h) n ≡ node_form k h n
   delivered_else h s m n ne = fold_same (reaches (delivered s m ∷ h) n) (reaches h n) h (λ t le. ap (λ x. (x && carries h s t) || reaches h n t) (ne_eqb m n ne))
 
-  -- and the slots too
-  pub delivered_slot : (h : History) (r m s : ℕ) → slot_form k (delivered r m ∷ h) s ≡ slot_form k h s
-  delivered_slot h r m s = refl
-
-  -- a drop leaves every node as it was, and the other slots
-  pub dropped_node : (h : History) (r n : ℕ) → node_form k (dropped r ∷ h) n ≡ node_form k h n
-  dropped_node h r n = refl
-
   pub dropped_else : (h : History) (r s : ℕ) → (r ≡ s → ⊥) → slot_form k (dropped r ∷ h) s ≡ slot_form k h s
   dropped_else h r s ne = fold_same (carries (dropped r ∷ h) s) (carries h s) h (λ t le. cond-false (eqb r s) _ _ (ne_eqb r s ne))
-
-  -- the dropped slot's own frame carries nothing
-  pub dropped_here : (h : History) (s : ℕ) → slot_form k (dropped s ∷ h) s ≡ k.none
-  dropped_here h s = fold_same (carries (dropped s ∷ h) s) (λ t. false) h (λ t le. cond-true (eqb s s) _ _ (eq-eqb s s refl)) ∙ fold_none h
-
-  -- a turn that did nothing leaves all as it was
-  pub nothing_node : (h : History) (n : ℕ) → node_form k (nothing ∷ h) n ≡ node_form k h n
-  nothing_node h n = refl
-
-  pub nothing_slot : (h : History) (s : ℕ) → slot_form k (nothing ∷ h) s ≡ slot_form k h s
-  nothing_slot h s = refl
 
   -- x is below y where y has nothing to gain from x
   abbrev pub Below : k.Form → k.Form → Type 0

@@ -7,8 +7,9 @@ ghost use Rattle.layers.specs.PairsLemmas.{pair_laws};
 use frames::header::{Header, header_bytes, read_header};
 use readings::Reading;
 use synopsis::fault::{DecodeFault, EncodeFault, Reason};
-use synopsis::kind::{LONGEST, Synopsis};
+use synopsis::kind::{OVERLONG, Synopsis};
 
+// Also the trait's constant below, of which a proof over any two kinds knows nothing.
 const NUMBER: u8 = 5;
 
 // Where the first side begins: after the header and the offset of the second side.
@@ -77,7 +78,7 @@ impl<A: Synopsis, B: Synopsis> Synopsis for Pair<A, B> {
     ghost lawful = { pair_laws A.Synopsis.kind B.Synopsis.kind A.Synopsis.lawful B.Synopsis.lawful };
 
     fn greatest_length() -> usize {
-        (FIRST + A::greatest_length() + B::greatest_length()).min(LONGEST + 1)
+        (FIRST + A::greatest_length() + B::greatest_length()).min(OVERLONG)
     }
 
     fn empty() -> Self {
@@ -101,7 +102,7 @@ impl<A: Synopsis, B: Synopsis> Synopsis for Pair<A, B> {
 
     fn length(&self) -> usize {
         if Self::is_overlong() {
-            return LONGEST + 1;
+            return OVERLONG;
         }
         FIRST + self.first.length() + self.second.length()
     }

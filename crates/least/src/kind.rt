@@ -20,6 +20,7 @@ impl LeastValues {
         let run = LeastRun::of(&self.row);
         let values = run.as_slice();
         if values.len() < 64 {
+            // By `as`, below 64: `u64` has no `From<usize>`.
             return values.len() as u64;
         }
         (63 << 32) / ((values[63] >> 32) + 1)

@@ -72,7 +72,7 @@ fn encode_at<S: Synopsis>(values: &[S], node: usize, memory: &mut [u8], slot: us
     values[node].encode(&mut memory[at..at + SLOT]).unwrap()
 }
 
-// A lent entry of the table is switched to filled, and to free.
+// The rule of the table: an entry is lent, and switched in place, here to filled and below to free.
 fn fill(entry: &mut Option<Filled>, sender: usize, length: usize)
     ensures { entry.new ≡ slot_of sender length }
 {
@@ -243,7 +243,7 @@ impl Network {
         empty_front(values, nodes);
         *self = Network {
             count: nodes,
-            slots: [None; SLOTS],
+            ..Network::new()
         };
         Ok(())
     }

@@ -47,6 +47,7 @@ impl NetworkFault {
     }
 }
 
+// By hand: of the text that a derive of `thiserror` writes no contract says what it is.
 impl fmt::Display for NetworkFault {
     ghost output = { λ e. Some (fault_text e) };
 

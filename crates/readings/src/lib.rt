@@ -52,5 +52,6 @@ pub fn mark(hash: u64) -> (u32, u32)
     } else {
         count
     };
+    // By `as`, behind a remainder: `try_from` would answer a refusal that never comes.
     ((hash % 64) as u32, rank)
 }

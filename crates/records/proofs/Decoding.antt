@@ -1,15 +1,14 @@
 -- What is read of a frame of records, once its header is.
-use Rattle.std.proofs.Common.{◌≡◌, ℕ, ◌+◌, ◌-◌, ◌*◌, ◌^◌, ◌<◌, ◌≤◌, true, ◌&&◌, eqb, List, ◌++◌, length, get_or, take, drop, Ok, Result, sym, ap, ◌∙◌, mul-le-mul_right, arith}
+use Rattle.std.proofs.Common.{◌≡◌, ℕ, ◌+◌, ◌-◌, ◌*◌, ◌^◌, ◌<◌, ◌≤◌, true, ◌&&◌, eqb, List, ◌++◌, length, get_or, take, drop, Ok, sym, ap, ◌∙◌, mul-le-mul_right, arith}
 use borrow.Rule.Slice.PartMut.{post_of}
 use Rattle.std.specs.List.{flat_map}
-use Rattle.std.proofs.lemmas.List.{take_at, drop_at, take_rest, length-take, take-append-drop}
+use Rattle.std.proofs.lemmas.List.{take_at, drop_at, take_rest, length-take}
 use Rattle.std.proofs.lemmas.Bool.{cond-true, eq-eqb, and_from}
-use Rattle.synopsis.specs.declared.fault.DecodeFault.{DecodeFault}
 use Rattle.frames.specs.declared.header.Header.{Header}
 use Rattle.frames.specs.Headers.{header_bytes, opened}
 use Rattle.frames.proofs.Headers.{Read, header_read, header_back}
 use Rattle.records.specs.Records.{Layout, cut}
-use Rattle.records.specs.RecordFrames.{end_of, frame_of, records_behind, read_records, placed_over, Placed}
+use Rattle.records.specs.RecordFrames.{end_of, frame_of, records_behind, read_records, Placed}
 use Rattle.records.proofs.RecordFrames.{length_cut}
 
 -- how many places a part of the first n has
@@ -54,14 +53,6 @@ module _ {E : Type 0} (kind fewest most : ℕ) (l : Layout E) (bytes : List ℕ)
           back = ap (frame_of kind l) front ∙ frame_back low back;
           rest = drop_at items (post_of 0 (n - 0) out) n long ∙ ap (λ (k : ℕ). drop k out) z;
         }
-
--- places where records were put hold them in front, and behind them what they held before
-pub placed_after : {E : Type 0} (kind fewest most : ℕ) (l : Layout E) (bytes : List ℕ) (before after : List E) (n : ℕ) → Placed kind fewest most l bytes before after n → n ≤ length after → after ≡ placed_over (read_records kind fewest most l bytes) before
-placed_after kind fewest most l bytes before after n p le =
-    let long : n ≡ length (take n after) = sym (simp length-take (omega arith)) in
-    sym (take-append-drop n after)
-    ∙ ap (λ (xs : List _). take n after ++ xs) (p.rest ∙ ap (λ (k : ℕ). drop k before) long)
-    ∙ ap (λ (r : Result (List _) DecodeFault). placed_over r before) (sym p.reads)
 
 -- the place of a record that does not rise is within bounds
 pub fall_fits : (i n w v most : ℕ) → i < n → n ≤ most → 4 + most * w < 65536 → v ≡ w → 4 + i * v < 2 ^ 64

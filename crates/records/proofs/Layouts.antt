@@ -5,13 +5,10 @@ use Rattle.std.proofs.Math.Nat.{zero-mod}
 use Rattle.std.proofs.lemmas.Bool.{cond-true, cond-false, eq-eqb, eqb-true, eqb-false}
 use Rattle.frames.specs.Numbers.{in_bytes, from_bytes}
 use Rattle.frames.proofs.Numbers.{from_in_bytes, in_from_bytes, from_small, length_in}
-use Rattle.records.specs.Records.{Layout, Readable, put_over, of_width, numbers, number_layout}
+use Rattle.records.specs.Records.{Layout, Readable, of_width, numbers, number_layout}
 
 -- bytes of a record's width are written over and read whole
 module _ {E : Type 0} (l : Layout E) (bytes : List ℕ) (long : length bytes ≡ l.width) where
-  pub put_whole : (x : E) → put_over l x bytes ≡ l.written x
-  put_whole x = cond-true _ (l.written x) bytes (eq-eqb (length bytes) l.width long)
-
   pub whole_width : of_width l bytes ≡ bytes
   whole_width = cond-true _ bytes _ (eq-eqb (length bytes) l.width long)
 

@@ -1,5 +1,5 @@
 -- A walk along records that lie one behind the other.
-use Rattle.std.proofs.Common.{◌≡◌, ℕ, suc, ◌+◌, ◌-◌, ◌*◌, ◌<◌, ◌≤◌, List, [], ◌∷◌, ◌++◌, length, get_or, take, drop, set, sym, ap, ◌∙◌, suc-mul, zero-mul, arith, take-add}
+use Rattle.std.proofs.Common.{◌≡◌, ℕ, suc, ◌+◌, ◌-◌, ◌*◌, ◌<◌, ◌≤◌, List, [], ◌∷◌, ◌++◌, length, get_or, take, drop, set, sym, ap, ◌∙◌, suc-mul, arith, take-add}
 use borrow.Rule.Slice.PartMut.{put_mid, post_of}
 use Rattle.std.specs.List.{flat_map}
 use Rattle.std.proofs.lemmas.List.{take_more, take_more_set, append_assoc, drop-drop, flat_map_more, length-take, length-drop, take_at, drop_at}
@@ -12,13 +12,6 @@ room n i w at len lt e =
     let s : n - i ≡ suc (n - (i + 1)) = omega arith in
     let m : (n - i) * w ≡ (n - (i + 1)) * w + w = ap (λ (k : ℕ). k * w) s ∙ suc-mul (n - (i + 1)) w in
     (omega arith, omega arith)
-
--- nothing is left
-pub no_room : (n i w at len : ℕ) → n ≤ i → at + (n - i) * w ≡ len → at ≡ len
-no_room n i w at len le e =
-    let s : n - i ≡ 0 = omega arith in
-    let m : (n - i) * w ≡ 0 = ap (λ (k : ℕ). k * w) s ∙ zero-mul w in
-    omega arith
 
 module _ {E : Type 0} (f : E → List ℕ) where
   joined_push : (xs : List E) (x : E) → flat_map f xs ++ f x ≡ flat_map f (xs ++ x ∷ [])

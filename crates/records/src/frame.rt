@@ -19,8 +19,8 @@ pub fn run_length<E: Record>(items: &[E]) -> usize
     4 + items.len() * E::width()
 }
 
-// Writes the frame of a kind with these records at the front of `out`, and answers its length. That they fit is asked for,
-// also below: a trait with that fact would ask more of those who call.
+// Writes the frame of a kind with these records at the front of `out`, and answers its length. That they fit is asked for
+// by all calls here: a trait with that fact would ask more of those who call.
 pub fn encode_run<E: Record>(kind: u8, items: &[E], out: &mut [u8]) -> Result<usize, EncodeFault>
     requires { FitsFrame E.Record.layout (length items.now) }
     ensures answer { result ≡ fitted (frame_of kind E.Record.layout items.now) (length out.old) }

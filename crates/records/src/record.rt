@@ -19,7 +19,8 @@ pub trait Record: Element {
         ensures whole { length out.old ≡ layout.width → out.new ≡ layout.written self }
         ensures over { out.new ≡ put_over layout self out.old };
 
-    // The record that bytes of its width are; of other bytes, the one that no bytes are.
+    // The record that bytes of its width are. Of another number of bytes it is the one that `layout.read` gives for none: an
+    // Option would ask a refusal of every caller, and all of them bring the width.
     fn get(bytes: &[u8]) -> Self
         ensures whole { length bytes.now ≡ layout.width → (result ≡ layout.read bytes.now) × (layout.written result ≡ bytes.now) }
         ensures value { result ≡ layout.read (of_width layout bytes.now) };
@@ -27,8 +28,8 @@ pub trait Record: Element {
     ghost readable: { Readable layout };
 }
 
-// Writes records one behind the other over `out`, which they fill. By the place of each record's bytes, also below: after a
-// loop over `chunks_exact_mut` a proof knows nothing of what was written, and a width may be zero.
+// Writes records one behind the other over `out`, which they fill. By the place of each record's bytes: after a loop over
+// `chunks_exact_mut` a proof knows nothing of what was written.
 pub(crate) fn put_all<E: Record>(items: &[E], out: &mut [u8])
     requires { length out.old ≡ length items.now * E.Record.layout.width }
     ensures { out.new ≡ flat_map E.Record.layout.written items.now }
@@ -41,7 +42,8 @@ pub(crate) fn put_all<E: Record>(items: &[E], out: &mut [u8])
     }
 }
 
-// Reads as many records as `out` has places from bytes that they fill.
+// Reads as many records as `out` has places from bytes that they fill. By the place of each record's bytes: a width may be
+// zero, and `chunks_exact` takes none of it.
 pub(crate) fn get_all<E: Record>(bytes: &[u8], out: &mut [E])
     requires { length bytes.now ≡ length out.old * E.Record.layout.width }
     ensures value { out.new ≡ cut E.Record.layout (length out.old) bytes.now }
@@ -64,7 +66,7 @@ fn put_sized(out: &mut [u8], width: usize, n: u64)
     }
 }
 
-// The number that so many bytes write, modulo 2^64; of other bytes, zero.
+// The number that so many bytes write, modulo 2^64; of another number of bytes, zero.
 fn get_sized(bytes: &[u8], width: usize) -> u64
     ensures value { result ≡ from_bytes (of_width (numbers width) bytes.now) % 2 ^ 64 }
     ensures small { length bytes.now ≡ width → AllByRecursion (λ b. b < 256) bytes.now }

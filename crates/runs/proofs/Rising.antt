@@ -6,6 +6,7 @@ use Rattle.std.specs.Ordering.{is_lt, ordering_reverse}
 use Rattle.runs.specs.Order.{Lawful}
 use Rattle.runs.specs.Runs.{rising_from, rising}
 use Rattle.runs.specs.Union.{Among, Least}
+use Rattle.runs.proofs.Orders.{lawful_self}
 
 pub both : (a b : Bool) → T a → T b → T (a && b)
 both true b s t = t
@@ -48,16 +49,8 @@ all_from_among P [] h = tt
 all_from_among P (y ∷ ys) h = (h y (inl refl), all_from_among P ys (λ x m. h x (inr m)))
 
 module _ {E : Type 0} (order : E → E → Ordering) (laws : Lawful order) where
-  pub same_self : (x : E) → order x x ≡ Equal
-  same_self x = by (order x x) refl
-    where
-      by : (o : Ordering) → order x x ≡ o → order x x ≡ Equal
-      by Less e = let z : ◌≡◌ {A = Ordering} Less Greater = sym e ∙ laws.turns x x ∙ ap ordering_reverse e in absurd (subst (λ (o : Ordering). T (is_lt o)) z tt)
-      by Equal e = e
-      by Greater e = let z : ◌≡◌ {A = Ordering} Less Greater = sym (ap ordering_reverse e) ∙ sym (laws.turns x x) ∙ e in absurd (subst (λ (o : Ordering). T (is_lt o)) z tt)
-
   pub never_less : (x : E) → order x x ≡ Less → ⊥
-  never_less x e = let z : ◌≡◌ {A = Ordering} Less Equal = sym e ∙ same_self x in subst (λ (o : Ordering). T (is_lt o)) z tt
+  never_less x e = let z : ◌≡◌ {A = Ordering} Less Equal = sym e ∙ lawful_self laws x in subst (λ (o : Ordering). T (is_lt o)) z tt
 
   pub less_turned : (x y : E) → order x y ≡ Greater → order y x ≡ Less
   less_turned x y e = laws.turns x y ∙ ap ordering_reverse e

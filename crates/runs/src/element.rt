@@ -15,7 +15,7 @@ pub trait Element: Ord + Copy {
     ghost one_blank: { (x y : Self) → T (blank x) → T (blank y) → x ≡ y };
 }
 
-// An element with which rows are made: that value is its default.
+// An element with which rows are made: its default is what stands in unused places.
 pub trait Fresh: Element + Default {
     ghost fresh: { (x : Self) → Self.is_default x → T (Self.blank x) };
 }

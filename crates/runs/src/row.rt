@@ -8,7 +8,7 @@ use crate::union::union;
 use std::alloc::AllocError;
 
 // A plain row of places, of which the first `count` are in use: nothing more is known of it. A row that is no run stands
-// for the empty one. It is no Vec with a count of its own, since no call of a kind may want memory.
+// for the empty one. It is no Vec, since no call of a kind may want memory, and no ArrayVec, since its count may be wrong.
 #[derive(Clone, Copy, PartialEq, Eq, Debug)]
 pub struct Row<E, const N: usize> {
     pub count: usize,
@@ -74,6 +74,7 @@ impl<E: Element, const N: usize> Run<E, N> {
         Some(Run { row: *row })
     }
 
+    // What the row counts.
     pub fn as_slice(&self) -> &[E]
         ensures { result.now ≡ counts self.now.row }
     {
@@ -83,7 +84,8 @@ impl<E: Element, const N: usize> Run<E, N> {
 }
 
 impl<E: Fresh, const N: usize> Run<E, N> {
-    // The run that a plain row stands for: the empty one where it fails the check.
+    // The run that a plain row stands for: the empty one where it fails the check. No `From`, which would not say that some rows
+    // fail.
     pub fn of(row: &Row<E, N>) -> Run<E, N>
         ensures { counts result.row ≡ (form_of E.Ord.cmp E.Element.blank row.now).items }
     {

@@ -13,7 +13,8 @@ struct Step<'a, E> {
     right: &'a [E],
 }
 
-// One step of the union of two runs: the first elements left in both are compared, and none where a run is used up.
+// One step of the union of two runs: the first elements left in both are compared; where one run is used up, the other gives
+// its first.
 fn advance<'a, E: Element>(a: &'a [E], b: &'a [E]) -> Option<Step<'a, E>>
     ensures { MatchOption result (merge E.Ord.cmp a.now b.now ≡ []) (λ s. merge E.Ord.cmp a.now b.now ≡ s.item ∷ merge E.Ord.cmp s.left.now s.right.now) }
 {

@@ -13,7 +13,7 @@ use std::cmp::Ordering;
 // How many bytes a record has in a frame.
 const WIDTH: usize = 20;
 
-// A reading in a sample.
+// A reading in a sample: not the reading's own type, which may gain parts that no sample keeps.
 #[derive(Clone, Copy, PartialEq, Eq, Default, Debug)]
 pub struct SampleRecord {
     pub item: u64,
@@ -34,7 +34,7 @@ impl From<Reading> for SampleRecord {
     }
 }
 
-// The reading that a record keeps.
+// The reading that a record keeps: the other way round, part by part as well.
 impl From<SampleRecord> for Reading {
     ghost from_gives = { λ kept r. r ≡ reading_of kept };
 
@@ -97,7 +97,7 @@ impl Element for SampleRecord {
     ghost one_blank = { one_unused };
 
     fn is_blank(self) -> bool {
-        self.item == 0 && self.tenant == 0 && self.amount == 0
+        self == SampleRecord::default()
     }
 }
 

@@ -54,6 +54,7 @@ impl DecodeFault {
     }
 }
 
+// By hand, here and below: of the text that a derive of `thiserror` writes no contract says what it is.
 impl fmt::Display for DecodeFault {
     ghost output = { λ e. Some (fault_text e) };
 

@@ -7,12 +7,15 @@ use readings::Reading;
 // How many bytes a frame has at most: a kind that may need more is overlong.
 pub const LONGEST: usize = 2048;
 
+// What the lengths of an overlong kind answer: a number that no frame has, since LENGTH answers a number and no Option by rule.
+pub const OVERLONG: usize = LONGEST + 1;
+
 // A synopsis: a small mergeable summary of readings, of one kind.
 pub trait Synopsis: Sized + Drop {
     // what the kind means
     ghost kind: { Kind };
 
-    // the kind number, in code and in clauses
+    // the kind number, in code and in clauses; `kind_number` answers it, since a clause needs a call to be said of
     const NUMBER: u8;
 
     ghost NUMBER: { ℕ };
