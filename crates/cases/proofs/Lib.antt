@@ -1,4 +1,3 @@
 pub mod Items
 pub mod Places
-pub mod Rooms
 pub mod Tallies

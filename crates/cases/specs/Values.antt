@@ -1,7 +1,7 @@
 -- The values that cases speak of, and what is written of them.
-use Rattle.std.specs.Prelude.{ℕ, zero, suc, ◌+◌, ◌*◌, ◌/◌, ◌%◌, ◌^◌, ◌==◌, ◌&&◌, nat_lt, nat_le, if◌then◌else◌, cond, List, map, length, take, drop, Option, Some, None}
+use Rattle.std.specs.Prelude.{ℕ, zero, suc, ◌+◌, ◌*◌, ◌/◌, ◌%◌, ◌^◌, ◌==◌, ◌&&◌, nat_lt, nat_le, if◌then◌else◌, cond, List, [], map, length, get_or, take, drop, Option, Some, None}
 use Rattle.std.specs.List.{range_with_len}
-use Rattle.records.specs.Records.{Layout}
+use Rattle.records.specs.Records.{Layout, of_width}
 use Rattle.sample.specs.declared.record.SampleRecord.{SampleRecord}
 use Rattle.readings.specs.declared.Reading.{Reading}
 use Rattle.synopsis.specs.Kind.{Kind, overlong}
@@ -32,6 +32,10 @@ room_bytes size = map room_byte (range_with_len 0 size)
 abbrev pub place_of : {E : Type 0} → Layout E → E → List ℕ → ℕ → E
 place_of l blank bytes i =
     if nat_lt i (length bytes / l.width) then l.read (take l.width (drop (i * l.width) bytes)) else blank
+
+-- the record that a part is, where there is one at this place, and else the blank one
+abbrev pub part_or : {E : Type 0} → Layout E → E → List (List ℕ) → ℕ → E
+part_or l blank parts i = if nat_lt i (length parts) then l.read (of_width l (get_or parts i [])) else blank
 
 -- n places with records at the front, where the records fill the bytes and fit
 abbrev pub places_of : {E : Type 0} → Layout E → E → ℕ → List ℕ → Option (List E)

@@ -66,9 +66,9 @@ fn changes(heap: Global, text: &str, mask: &str) -> Result<(Vec<u8>, u8), Fault>
     ensures shown { IfOk result (λ p. (hex_text p.0.items ≡ text.now) × (hex_text (p.1 ∷ []) ≡ mask.now)) }
     ensures some { IfOk result (λ p. 0 < length p.0.items) }
 {
-    let text = bytes(heap, text)?;
+    let found = bytes(heap, text)?;
     match bytes(heap, mask)?.as_slice() {
-        [mask] if !text.is_empty() => Ok((text, *mask)),
+        [mask] if !found.is_empty() => Ok((found, *mask)),
         _ => Err(Fault::Form),
     }
 }
@@ -80,6 +80,18 @@ fn row<S: Subject>(heap: Global, count: &str, places: &str) -> Result<S, Fault>
     let count = usize::try_from(number(count)?)?;
     let places = bytes(heap, places)?;
     S::row(count, places.as_slice()).ok_or(Fault::Form)
+}
+
+// What becomes of bytes, with the value where they hold one.
+fn told<S: Subject>(heap: Global, bytes: &[u8]) -> Result<Answer<S::Figures>, AllocError>
+    ensures { IfOk result (Tells S.Synopsis.kind (S.Synopsis.kind.decoding bytes.now)) }
+{
+    let outcome = decoded::<S>(heap, bytes)?;
+    let mut place = two_items::<S>();
+    match (outcome, place.decode(bytes)) {
+        (Outcome::Accepted { .. }, Ok(())) => Ok(Answer::Accepted(Written::of(heap, &place)?)),
+        _ => Ok(Answer::Refused(outcome)),
+    }
 }
 
 impl<S: Subject> Case<S> {
@@ -117,21 +129,7 @@ impl<S: Subject> Case<S> {
             _ => Err(Fault::Form),
         }
     }
-}
 
-// What becomes of bytes, with the value where they hold one.
-fn told<S: Subject>(heap: Global, bytes: &[u8]) -> Result<Answer<S::Figures>, AllocError>
-    ensures { IfOk result (Tells S.Synopsis.kind (S.Synopsis.kind.decoding bytes.now)) }
-{
-    let outcome = decoded::<S>(heap, bytes)?;
-    let mut place = two_items::<S>();
-    match (outcome, place.decode(bytes)) {
-        (Outcome::Accepted { .. }, Ok(())) => Ok(Answer::Accepted(Written::of(heap, &place)?)),
-        _ => Ok(Answer::Refused(outcome)),
-    }
-}
-
-impl<S: Subject> Case<S> {
     pub fn answer(&self, heap: Global) -> Result<Answer<S::Figures>, AllocError>
         ensures { IfOk result (Answers S.Synopsis.kind S.Synopsis.form S.Subject.figured self.now) }
     {

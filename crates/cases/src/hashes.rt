@@ -7,6 +7,7 @@ use std::alloc::{AllocError, Global};
 use std::fmt;
 use texts::fault::Fault;
 use texts::field::{number, up_to, word};
+use texts::shown::Pairs;
 
 const MOST_OUTPUTS: u64 = 64;
 
@@ -72,7 +73,10 @@ impl HashCase {
 impl fmt::Display for HashAnswer {
     fn fmt<W: fmt::Write>(&self, f: &mut fmt::Formatter<W>) -> fmt::Result {
         match self {
-            HashAnswer::Item { hash, mark } => write!(f, "{hash:016X} {} {}", mark.0, mark.1),
+            HashAnswer::Item { hash, mark } => {
+                let hash = hash.to_be_bytes();
+                write!(f, "{} {} {}", Pairs(&hash), mark.0, mark.1)
+            }
             HashAnswer::Mark(mark) => write!(f, "{} {}", mark.0, mark.1),
             HashAnswer::Outputs(outputs) => {
                 if outputs.is_empty() {

@@ -7,7 +7,7 @@ ghost use Rattle.least.specs.Least.{least_form, estimate_of};
 ghost use Rattle.records.specs.Records.{number_layout};
 ghost use Rattle.sample.specs.Records.{sample_layout};
 ghost use Rattle.sample.specs.Sample.{sample_form};
-ghost use Rattle.cases.specs.Values.{places_of, unused_record};
+ghost use Rattle.cases.specs.Values.{part_or, places_of, unused_record};
 ghost use Rattle.std.proofs.Common.{rules};
 
 use crate::subject::Subject;
@@ -18,7 +18,7 @@ use records::record::Record;
 use runs::row::Row;
 use sample::record::SampleRecord;
 use sample::row::{Sample, SampleRun};
-use std::fmt;
+use std::{array, fmt};
 
 // Two figures, parted by a comma.
 #[derive(Drop)]
@@ -42,12 +42,17 @@ fn places<R: Record, const W: usize, const N: usize>(bytes: &[u8], blank: R) -> 
     if !rest.is_empty() || parts.len() > N {
         return None;
     }
-    // By index: after a loop over `iter_mut().zip(..)` a proof knows nothing of what was written.
-    let mut places = [blank; N];
-    for (i, part) in parts.iter().enumerate() {
-        places[i] = R::get(part);
-    }
-    Some(places)
+    // The closure has a clause, since a proof reads nothing off the body of a generic one.
+    Some(array::from_fn(
+        |i| -> R
+            ensures { result ≡ part_or R.Record.layout blank parts.entry.now i }
+        {
+            match parts.get(i) {
+                Some(part) => R::get(part),
+                None => blank,
+            }
+        },
+    ))
 }
 
 impl Subject for Bitmaps {
@@ -99,6 +104,7 @@ impl Subject for LeastValues {
     }
 
     fn row(count: usize, bytes: &[u8]) -> Option<LeastValues> {
+        // what the two rows share is `places`; the rest names type and sizes
         let places = places::<u64, 8, 64>(bytes, 0)?;
         Some(LeastValues {
             row: Row { count, places },
@@ -134,6 +140,7 @@ impl Subject for Sample {
     }
 
     fn row(count: usize, bytes: &[u8]) -> Option<Sample> {
+        // what the two rows share is `places`; the rest names type and sizes
         let places = places::<SampleRecord, 20, 32>(bytes, SampleRecord::default())?;
         Some(Sample {
             row: Row { count, places },
@@ -174,11 +181,8 @@ pub fn full(last: u64) -> LeastValues
     ensures front { (i : ℕ) → i < 63 → slice_index result.row.places i ≡ i }
     ensures last { slice_index result.row.places 63 ≡ last }
 {
-    let mut places = [0; 64];
-    // A cast: `u64` has no `From<usize>`, and a `zip` with numbers leaves the places unknown to a proof.
-    for (i, place) in places.iter_mut().enumerate() {
-        *place = i as u64;
-    }
+    // A cast: `u64` has no `From<usize>`; i is below 64, and `try_from` would answer a refusal that never comes.
+    let mut places = array::from_fn(|i| i as u64);
     places[63] = last;
     LeastValues {
         row: Row { count: 64, places },

@@ -9,7 +9,7 @@ use std::alloc::{AllocError, Global};
 use std::fmt;
 use synopsis::fault::DecodeFault;
 
-// No Option of a Result: that could not have a Display of its own, and its None would not say what the places did.
+// No Option of a Result: its None would not say what the places did.
 #[derive(Clone, Copy, PartialEq, Eq)]
 pub enum Outcome {
     // the length of the frame that is written again, and whether it is the very bytes: a flag, since both are told

@@ -11,6 +11,7 @@ use texts::shown::Pairs;
 // What is written of a value: its length, and its frame, where one is written.
 #[derive(Drop)]
 pub struct Written {
+    // its length, 2,049 where no frame is written
     pub length: usize,
     pub frame: Option<Vec<u8>>,
 }

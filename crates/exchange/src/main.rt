@@ -8,7 +8,7 @@ use readings::Reading;
 use std::io;
 use texts::shown::Pairs;
 
-// How many bytes of a frame get through where it is cut on the way.
+// How many bytes of a frame get through where it is cut on the way: this program's own number, as many as in the afternoon.
 const CUT: usize = 19;
 
 fn reading(tenant: u32, item: u64, amount: u64) -> Reading {

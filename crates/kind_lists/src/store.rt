@@ -2,7 +2,7 @@
 use bitmaps::maps::Bitmaps;
 use diffusion::values::empty_values;
 use least::row::LeastValues;
-use lists::answer::{MEMORY, VALUES, answer};
+use lists::answer::{BYTES, VALUES, answer};
 use lists::outcome::Outcome;
 use pile::{FourSamples, StandardPile};
 use sample::row::Sample;
@@ -30,7 +30,7 @@ impl Store {
             samples: empty_values(heap, VALUES)?,
             piles: empty_values(heap, VALUES)?,
             overlong: empty_values(heap, VALUES)?,
-            memory: vec![in heap; 0; MEMORY]?,
+            memory: vec![in heap; 0; BYTES]?,
         })
     }
 

@@ -22,7 +22,7 @@ use texts::line::answered;
 // How many values and how many bytes a program lends, some more than a network asks for.
 pub const VALUES: usize = 18;
 
-pub const MEMORY: usize = 65_600;
+pub const BYTES: usize = 65_600;
 
 // The turns of a list that has no OPEN.
 fn turns(heap: Global, list: &[Plan]) -> Result<Vec<Turn<'_>>, Fault>
@@ -46,17 +46,16 @@ fn run_all<S: Synopsis>(
 {
     let turns = turns(heap, list)?;
     let mut network = Network::new();
-    let ran = run(heap, &mut network, values, memory, nodes, turns.as_slice());
-    let opened = ran.map(Ok).or_else(|fault| match fault {
-        RunFault::Refused(fault) => Ok(Err(fault)),
-        RunFault::Memory(_) => Err(Fault::Memory),
-    })?;
-    Ok(Outcome::Run(opened))
+    // A match: a refusal goes into the outcome, and want of memory out of the call; `?` hands on but one of the two.
+    match run(heap, &mut network, values, memory, nodes, turns.as_slice()) {
+        Ok(answers) => Ok(Outcome::Run(Ok(answers))),
+        Err(RunFault::Refused(fault)) => Ok(Outcome::Run(Err(fault))),
+        Err(RunFault::Memory(_)) => Err(Fault::Memory),
+    }
 }
 
-// What becomes of a task, on exactly these values and this memory. They go side by side as far as the task, and only then
-// into a rack: of a struct with both references each contract would have to say besides that it still holds the same
-// ones, for the clause that a line that is no case leaves them.
+// What becomes of a task, on exactly these values and this memory. Two parameters, and a rack only below: of a struct of
+// two references every contract would also have to say that it still holds the same two.
 fn outcome_of<S: Synopsis>(
     heap: Global,
     values: &mut [S],
@@ -70,6 +69,7 @@ fn outcome_of<S: Synopsis>(
     match task {
         Task::Run { nodes, list } => run_all(heap, values, memory, *nodes, list.as_slice()),
         Task::Each { list } => {
+            // Made in each arm: a call that makes it would have to promise that it holds the same references.
             let mut rack = Rack {
                 heap,
                 network,

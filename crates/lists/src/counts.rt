@@ -37,7 +37,9 @@ impl Counts {
                     .fold(self.sum, |sum, byte| sum.saturating_add(u64::from(*byte)));
             }
             Err(fault) => {
-                let place = usize::from(fault.number()).wrapping_sub(1);
+                let Some(place) = usize::from(fault.number()).checked_sub(1) else {
+                    return;
+                };
                 if let Some(count) = self.refused.get_mut(place) {
                     *count = count.saturating_add(1);
                 }

@@ -4,8 +4,10 @@ ghost use Rattle.lists.specs.Outcomes.{IsLong};
 
 use crate::counts::Counts;
 use crate::outcome::Outcome;
+use crate::plan::Front;
 use crate::rack::Rack;
 use histories::{Call, Turn};
+use network::calls::MEMORY;
 use readings::{Reading, output};
 use std::alloc::AllocError;
 use synopsis::kind::{LONGEST, Synopsis};
@@ -39,6 +41,7 @@ fn call_of<S: Synopsis>(word: u64, odd: u64, room: &mut [u8]) -> Call<'_> {
             },
         },
         2 => {
+            // an overlong kind never gets here, since its OPEN is refused
             let frame = frame_of::<S>(word, room).unwrap_or(&[]);
             let cut = usize::from(odd % 8 == 2);
             Call::Arrive {
@@ -60,8 +63,16 @@ fn call_of<S: Synopsis>(word: u64, odd: u64, room: &mut [u8]) -> Call<'_> {
 fn turn_of<S: Synopsis>(word: u64, room: &mut [u8]) -> Turn<'_> {
     let odd = word / 0x1_0000_0000_0000 % 64;
     Turn {
-        values: if odd == 0 { NODES - 1 } else { usize::MAX },
-        bytes: if odd == 1 { 65_535 } else { usize::MAX },
+        values: if odd == 0 {
+            NODES - 1
+        } else {
+            Front::ALL.values
+        },
+        bytes: if odd == 1 {
+            MEMORY - 1
+        } else {
+            Front::ALL.bytes
+        },
         call: call_of::<S>(word, odd, room),
     }
 }
@@ -81,8 +92,8 @@ impl<S: Synopsis> Rack<'_, S> {
         let ends = (0..NODES)
             .map(|node| {
                 self.turn(&Turn {
-                    values: usize::MAX,
-                    bytes: usize::MAX,
+                    values: Front::ALL.values,
+                    bytes: Front::ALL.bytes,
                     call: Call::Read {
                         node,
                         room: LONGEST,

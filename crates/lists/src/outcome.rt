@@ -54,7 +54,7 @@ impl fmt::Display for Told<'_> {
     }
 }
 
-// Answers, each behind a semicolon.
+// Answers, each after a semicolon.
 #[derive(Clone, Copy)]
 struct Brief<'a>(&'a [Answer]);
 

@@ -15,11 +15,11 @@ use texts::field::{bytes, number};
 
 // A node, a slot, or how many of something.
 pub(crate) fn size(text: &str) -> Result<usize, Fault> {
-    usize::try_from(number(text)?).map_err(|_| Fault::Form)
+    Ok(usize::try_from(number(text)?)?)
 }
 
 // How many of the values and of the bytes of memory are brought, a front part of them. A turn holds the same two numbers
-// beside its call, but OPEN has a front and no call.
+// beside its call; with a front in it, each clause of the network's runs that names them would change.
 #[derive(Clone, Copy)]
 pub struct Front {
     pub values: usize,
@@ -72,7 +72,7 @@ fn read_call(fields: &[&str]) -> Result<Call<'static>, Fault> {
         ["g", node, tenant, item, amount] => Call::Generate {
             node: size(node)?,
             reading: Reading {
-                tenant: u32::try_from(number(tenant)?).map_err(|_| Fault::Form)?,
+                tenant: u32::try_from(number(tenant)?)?,
                 item: number(item)?,
                 amount: number(amount)?,
             },
@@ -123,7 +123,7 @@ pub struct Plan {
 }
 
 impl Plan {
-    // The turn that it is; of OPEN, which is none, how many nodes it opens.
+    // The turn that it is. Its Err is no failure but the other of the two: how many nodes OPEN opens.
     pub(crate) fn as_turn(&self) -> Result<Turn<'_>, usize>
         ensures { MatchResult result (Plans self.now.front self.now.step) (λ nodes. self.now.step ≡ Open nodes) }
     {

@@ -29,7 +29,7 @@ impl<S: Synopsis> Rack<'_, S> {
 
     pub(crate) fn turn(&mut self, turn: &Turn<'_>) -> Result<Answer, AllocError>
         ensures answer { IfOk result (λ a. tells a ≡ turn_tells S.Synopsis.kind (rack_state S.Synopsis.kind S.Synopsis.form self.old) turn.now) }
-        ensures after { MatchResult result (λ _. rack_state S.Synopsis.kind S.Synopsis.form self.new ≡ turn_leaves S.Synopsis.kind (rack_state S.Synopsis.kind S.Synopsis.form self.old) turn.now) (λ _. (self.new.network ≡ self.old.network) × (self.new.memory.now ≡ self.old.memory.now)) }
+        ensures after { MatchResult result (λ _. rack_state S.Synopsis.kind S.Synopsis.form self.new ≡ turn_leaves S.Synopsis.kind (rack_state S.Synopsis.kind S.Synopsis.form self.old) turn.now) (λ _. (self.new.network ≡ self.old.network) × (self.new.memory.now ≡ self.old.memory.now) × (self.new.values.now ≡ self.old.values.now)) }
     {
         make_turn(self.heap, &mut self.network, self.values, self.memory, turn)
     }

@@ -16,7 +16,7 @@ const PAIR: usize = 2;
 const USED: usize = 5;
 
 // The first slot of the half that is dropped, and the slot of that half that is tried.
-const HALF: usize = 16;
+const HALF: usize = SLOTS / 2;
 
 const TRIED: usize = 20;
 
@@ -26,7 +26,7 @@ const FAR: usize = 3;
 // How many bytes of a frame get through where it is cut on the way.
 const CUT: usize = 19;
 
-// What the far end sent: the frame of clients 0, 1 and 2, and of it what got through.
+// What gets through of the frame of clients 0, 1 and 2, where it is cut.
 pub(crate) fn cut_frame<S: Synopsis>(heap: Global) -> Result<Vec<u8>, AllocError> {
     let mut value = S::empty();
     for (tenant, item, amount) in [(7, 0, 500), (7, 1, 900), (8, 2, 75)] {

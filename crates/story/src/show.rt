@@ -44,6 +44,7 @@ impl fmt::Display for Slots {
 #[derive(Clone, Copy)]
 pub(crate) struct Asked<'a> {
     call: Call<'a>,
+    // only runs of SENDs and DROPs have one
     last: Option<usize>,
 }
 

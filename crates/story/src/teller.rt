@@ -13,7 +13,8 @@ use itertools::Itertools;
 use std::io;
 use synopsis::kind::Synopsis;
 
-// How the program that tells a story compares two frames.
+// How the program that tells a story compares two frames. A trait, though one type has it here: a program may bring its own
+// comparison, and this contract refuses a wrong one.
 pub trait Compare {
     // Whether frames are equal, one byte after another.
     fn is_equal(one: &[u8], other: &[u8]) -> bool

@@ -48,6 +48,8 @@ capital-read c v capital read = grind (arith)
 capital_digit-large : (d : ℕ) → d < 16 → is_ascii_lowercase (capital_digit d) ≡ false
 capital_digit-large d h = grind (arith)
 
+-- `bind_ok` and `digit_read` stand in the hex library too, but are private there
+
 -- what an `Ok` after `>>=` shows
 bind_ok : {A B : Type 0} (r : Result A FromHexError) (f : A → Result B FromHexError) (y : B)
     → (r >>= f) ≡ Ok y → (x : A) × (r ≡ Ok x) × (f x ≡ Ok y)

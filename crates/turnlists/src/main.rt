@@ -2,7 +2,7 @@
 #![tactic(auto)]
 
 use least::row::LeastValues;
-use lists::answer::{MEMORY, VALUES, answer, told};
+use lists::answer::{BYTES, VALUES, answer, told};
 use synopsis::kind::Synopsis;
 use texts::line::answer_lines;
 
@@ -10,7 +10,7 @@ use texts::line::answer_lines;
 fn main(rt: HostRuntime) -> anyhow::Result<()> {
     let heap = rt.alloc();
     let mut values = [LeastValues::empty(); VALUES];
-    let mut memory: Vec<u8> = vec![in heap; 0; MEMORY]?;
+    let mut memory: Vec<u8> = vec![in heap; 0; BYTES]?;
     answer_lines(&rt, |line| {
         told(heap, answer(heap, &mut values, memory.as_mut_slice(), line))
     })
