@@ -1,4 +1,4 @@
-ghost use Rattle.std.specs.Prelude.{◌≡◌, ◌+◌, length, IfOk};
+ghost use Rattle.std.specs.Prelude.{◌≡◌, ◌+◌, ◌<◌, ◌≤◌, length, IfOk};
 ghost use Rattle.cases.specs.Outcomes.{outcome_extended, outcome_cut, outcome_changed, each_below};
 
 use crate::outcome::{Outcome, decoded};
@@ -12,19 +12,23 @@ pub struct Tally {
     pub outcomes: Vec<Outcome>,
 }
 
-// Loops that push: tried as a chain with `try_collect`, and of the items that it gives the proof did not close.
-#[tactic(auto, using(crate::proofs::Tallies::none_below, crate::proofs::Tallies::one_more, crate::proofs::Tallies::every_byte))]
+// The closures have clauses, so that a wrong body is refused where it stands.
 impl Tally {
     // Of the bytes with one more, whichever it is.
     pub fn all<S: Subject>(heap: Global, front: &[u8]) -> Result<Tally, AllocError>
         ensures { IfOk result (λ t. t.outcomes.items ≡ each_below (outcome_extended S.Synopsis.kind front.now) 256) }
     {
-        let mut outcomes = Vec::new(heap);
-        for last in 0..=255 {
-            let mut bytes = Vec::from_slice(heap, front)?;
-            bytes.push(last)?;
-            outcomes.push(decoded::<S>(heap, bytes.as_slice())?)?;
-        }
+        let outcomes = (0..=255u8)
+            .map(
+                |last| -> Result<Outcome, AllocError>
+                    ensures { IfOk result (λ o. o ≡ outcome_extended S.Synopsis.kind front.entry.now last) }
+                {
+                    let mut bytes = Vec::from_slice(heap, front)?;
+                    bytes.push(last)?;
+                    decoded::<S>(heap, bytes.as_slice())
+                },
+            )
+            .try_collect(heap)?;
         Ok(Tally { outcomes })
     }
 
@@ -32,10 +36,14 @@ impl Tally {
     pub fn cuts<S: Subject>(heap: Global, bytes: &[u8]) -> Result<Tally, AllocError>
         ensures { IfOk result (λ t. t.outcomes.items ≡ each_below (outcome_cut S.Synopsis.kind bytes.now) (length bytes.now + 1)) }
     {
-        let mut outcomes = Vec::new(heap);
-        for length in 0..=bytes.len() {
-            outcomes.push(decoded::<S>(heap, &bytes[..length])?)?;
-        }
+        let outcomes = (0..=bytes.len())
+            .map(
+                |n| -> Result<Outcome, AllocError>
+                    requires { n ≤ length bytes.now }
+                    ensures { IfOk result (λ o. o ≡ outcome_cut S.Synopsis.kind bytes.entry.now n) }
+                { decoded::<S>(heap, &bytes[..n]) },
+            )
+            .try_collect(heap)?;
         Ok(Tally { outcomes })
     }
 
@@ -43,12 +51,18 @@ impl Tally {
     pub fn changes<S: Subject>(heap: Global, bytes: &[u8], mask: u8) -> Result<Tally, AllocError>
         ensures { IfOk result (λ t. t.outcomes.items ≡ each_below (outcome_changed S.Synopsis.kind bytes.now mask) (length bytes.now)) }
     {
-        let mut outcomes = Vec::new(heap);
-        for (i, byte) in bytes.iter().enumerate() {
-            let mut changed = Vec::from_slice(heap, bytes)?;
-            changed[i] = byte ^ mask;
-            outcomes.push(decoded::<S>(heap, changed.as_slice())?)?;
-        }
+        let outcomes = (0..bytes.len())
+            .map(
+                |i| -> Result<Outcome, AllocError>
+                    requires { i < length bytes.now }
+                    ensures { IfOk result (λ o. o ≡ outcome_changed S.Synopsis.kind bytes.entry.now mask i) }
+                {
+                    let mut changed = Vec::from_slice(heap, bytes)?;
+                    changed[i] ^= mask;
+                    decoded::<S>(heap, changed.as_slice())
+                },
+            )
+            .try_collect(heap)?;
         Ok(Tally { outcomes })
     }
 }

@@ -21,7 +21,7 @@ told_text done = codes "ok"
 told_text (bytes bs) = hex_text bs
 told_text (refused e) = no_text e
 
--- each answer behind a semicolon
+-- each answer after a semicolon
 abbrev pub answer_text : TurnAnswer → List ℕ
 answer_text a = codes ";" ++ told_text (tells a)
 

@@ -1,7 +1,8 @@
 use Rattle.std.proofs.Common.{rules}
 use Rattle.std.proofs.lemmas.Result.{IfOk-weaker}
 use Rattle.lists.specs.Plans.{Plans}
-use Rattle.lists.proofs.Listing.{try_collected, written_all}
+use Rattle.texts.proofs.Collecting.{try_collected}
+use Rattle.lists.proofs.Listing.{written_all}
 use Rattle.lists.proofs.answer.turns.Goals as goal
 
 pub returns : goal.returns
