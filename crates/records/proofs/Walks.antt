@@ -1,8 +1,8 @@
 -- A walk along records that lie one behind the other.
 use Rattle.std.proofs.Common.{◌≡◌, ℕ, suc, ◌+◌, ◌-◌, ◌*◌, ◌<◌, ◌≤◌, List, [], ◌∷◌, ◌++◌, length, get_or, take, drop, set, sym, ap, ◌∙◌, suc-mul, arith, take-add}
-use borrow.Rule.Slice.PartMut.{put_mid, post_of}
+use borrow.Rule.Slice.PartMut.{put_mid}
 use Rattle.std.specs.List.{flat_map}
-use Rattle.std.proofs.lemmas.List.{take_more, take_more_set, append_assoc, drop-drop, flat_map_more, length-take, length-drop, take_at, drop_at}
+use Rattle.std.proofs.lemmas.List.{take_more, take_more_set, append_assoc, drop-drop, flat_map_more, length-take, length-drop}
 use Rattle.std.proofs.lemmas.Slice.{take-put_mid}
 use Rattle.records.specs.Records.{Layout, cut}
 
@@ -50,10 +50,3 @@ part_length bytes at w v e le = simp (length-take, length-drop) (omega arith)
 
 pub part_is : (bytes : List ℕ) (at w v : ℕ) → v ≡ w → take (at + v - at) (drop at bytes) ≡ take w (drop at bytes)
 part_is bytes at w v e = let s : at + v - at ≡ w = omega arith in ap (λ (n : ℕ). take n (drop at bytes)) s
-
--- a header of four bytes is written over the front of some bytes, and a body behind it
-pub framed : (h body out : List ℕ) (end k : ℕ) → length h ≡ 4 → 4 + length body ≡ end → k ≡ end - 4 → put_mid 4 k (h ++ post_of 0 4 out) body ≡ (h ++ body) ++ drop end out
-framed h body out end k four e q =
-    let front : take 4 (h ++ drop 4 out) ≡ h = take_at h (drop 4 out) 4 four in
-    let behind : drop k (drop 4 (h ++ drop 4 out)) ≡ drop end out = ap (drop k) (drop_at h (drop 4 out) 4 four) ∙ drop-drop k 4 out ∙ ap (λ (n : ℕ). drop n out) (omega arith) in
-    ap (λ (l : List ℕ). l ++ (body ++ drop k (drop 4 (h ++ drop 4 out)))) front ∙ ap (λ (l : List ℕ). h ++ (body ++ l)) behind ∙ sym (append_assoc h body (drop end out))
