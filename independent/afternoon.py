@@ -1,17 +1,23 @@
-"""Writes what the demonstration `afternoon` should print, or compares it with the stored text.
+"""Writes what the demonstration `pile_afternoon` should print, or compares it with the stored text.
 
-    python3 independent/afternoon.py            writes crates/afternoon/stdout
+    python3 independent/afternoon.py            writes crates/pile_afternoon/stdout
     python3 independent/afternoon.py --check    compares it with what it would write
 """
 
 import sys
 from pathlib import Path
 
-import least
+sys.dont_write_bytecode = True
+
+from kinds import Refused
+from least import LEAST
+from pair import KINDS, PILE
+from readings import Reading
 from stored import write_or_compare
 
-FOLDER = Path(__file__).resolve().parent.parent / "crates" / "afternoon"
+FOLDER = Path(__file__).resolve().parent.parent / "crates" / "pile_afternoon"
 SLOTS = 32
+OVERLONG = 3
 SLOT_FREE = 6
 SLOT_FILLED = 7
 
@@ -19,11 +25,13 @@ SLOT_FILLED = 7
 class Story:
     """A network of hosts, all empty at first, and what is told of it line by line."""
 
-    def __init__(self, hosts):
-        self.held = [[] for _ in range(hosts)]
+    def __init__(self, kind, hosts):
+        self.kind = kind
+        self.held = [kind.empty] * hosts
         self.slots = {}
         self.turns = 0
-        self.lines = [f"   a network of {hosts} hosts is opened: ok"]
+        opened = f"is refused with {OVERLONG}" if kind.is_overlong() else "is opened: ok"
+        self.lines = [f"   a network of {hosts} hosts {opened}"]
 
     def say(self, text):
         self.lines.append(text)
@@ -33,15 +41,15 @@ class Story:
         self.say(f"   {deed}: {answer}")
 
     def see(self, host, tenant, item, amount):
-        self.held[host] = least.join(self.held[host], [least.hash_of(item)])
+        self.held[host] = self.kind.join(self.held[host], self.kind.single(Reading(tenant, item, amount)))
         self.tell(f"host {host} sees client {item} of tenant {tenant}, amount {amount}", "ok")
 
     def hand(self, host, frame):
         """Joins a frame into a host, and gives the answer."""
         try:
-            self.held[host] = least.join(self.held[host], least.decode(frame))
-        except least.Refused as fault:
-            return f"refused with {fault.number}, at byte {fault.place}, in kind {least.KIND}"
+            self.held[host] = self.kind.join(self.held[host], self.kind.decode(frame))
+        except Refused as fault:
+            return f"refused with {fault.number}, at byte {fault.place}, in kind {fault.kind}"
         return "ok"
 
     def arrive(self, host, frame):
@@ -51,7 +59,7 @@ class Story:
         """What a SEND of the host's frame of now into a slot answers."""
         if slot in self.slots:
             return f"refused with {SLOT_FILLED}"
-        self.slots[slot] = least.encode(self.held[host])
+        self.slots[slot] = self.kind.frame(self.held[host])
         return "ok"
 
     def empty(self, slot):
@@ -69,7 +77,7 @@ class Story:
         self.tell(f"slot {slot} is delivered to host {host}", answer)
 
     def read(self, host):
-        frame = least.encode(self.held[host])
+        frame = self.kind.frame(self.held[host])
         self.tell(f"host {host} is read", shown(frame))
         return frame
 
@@ -102,11 +110,14 @@ class Story:
 
 
 def shown(frame):
-    return frame.hex().upper()
+    """A frame's bytes, or how many they are with the first and the last of them."""
+    if len(frame) <= 64:
+        return frame.hex().upper()
+    return f"{len(frame)} bytes, {shown(frame[:12])} .. {shown(frame[-8:])}"
 
 
 def example():
-    story = Story(2)
+    story = Story(LEAST, 2)
     story.see(0, 7, 0, 500)
     story.send(0, 3)
     story.see(0, 7, 9, 900)
@@ -147,9 +158,10 @@ def before_the_quiet(story):
 
 
 def from_the_quiet_on(story):
-    """Parts 4 to 6: equal bytes, full slots, and a cut frame."""
+    """Parts 4 to 6: equal bytes, full slots, and a cut frame. Gives what host 0 was read to hold."""
     story.say("4. The links are quiet: two hosts that heard of every client are read.")
-    story.compare(story.read(0), story.read(2))
+    quiet = story.read(0)
+    story.compare(quiet, story.read(2))
     story.say("5. All slots are filled, half of them dropped, and filled again.")
     story.drop(0, 4)
     story.fill(0, 0, SLOTS - 1)
@@ -160,20 +172,35 @@ def from_the_quiet_on(story):
     story.deliver(20, 1)
     story.say("6. A frame that was cut on the way reaches host 1.")
     before = story.read(1)
-    story.arrive(1, least.encode(least.run_of(least.hash_of(item) for item in [0, 1, 2]))[:19])
+    three = [Reading(7, 0, 500), Reading(7, 1, 900), Reading(8, 2, 75)]
+    story.arrive(1, story.kind.frame(story.kind.join_all(three))[:19])
     story.compare(before, story.read(1))
+    return quiet
 
 
-def afternoon():
-    story = Story(4)
+def afternoon(kind):
+    """The lines of an afternoon, and what host 0 was read to hold when the links were quiet."""
+    story = Story(kind, 4)
     before_the_quiet(story)
-    from_the_quiet_on(story)
+    quiet = from_the_quiet_on(story)
     story.say("7. The end of the afternoon.")
-    return story.end()
+    return story.end(), quiet
+
+
+def told_by_pile(frame):
+    total, by_bitmaps, by_least, records = PILE.figures(PILE.decode(frame))
+    yield "What host 0 says at the end:"
+    yield f"   bitmaps: S is {total}, about {by_bitmaps} clients"
+    yield f"   least values: about {by_least} clients"
+    yield f"   sample: {records} records"
 
 
 def transcript():
-    return ["An example: a slot holds what was sent."] + example() + ["The afternoon."] + afternoon()
+    on_least, _ = afternoon(LEAST)
+    on_pile, quiet = afternoon(PILE)
+    return ["An example: a slot holds what was sent.", *example(), "The afternoon.", *on_least,
+            "The same afternoon, on a network of the standard pile.", *on_pile, *told_by_pile(quiet),
+            "An overlong pile: four samples in three pairs.", *Story(KINDS["o"], 4).lines]
 
 
 def main(arguments):

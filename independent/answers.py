@@ -9,19 +9,28 @@ from itertools import groupby
 
 sys.dont_write_bytecode = True
 
-import least
+from bitmaps import lowest_zero
+from frames import shown
+from kinds import NotWritten, Refused
+from least import LEAST
+from pair import KINDS
+from readings import NOUGHT, WORD, Reading, hash_of, mark_of
+from runs import RunKind
 
 MOST_OUTPUTS = 64
 MOST_ITEMS = 65536
-MOST_ROOM = 1024
+MOST_TENANTS = 4096
+MOST_ROOM = 2100
 
 
 class BadLine(Exception):
     pass
 
 
+# The fields of a line.
+
 def number(text):
-    if not re.fullmatch("0|[1-9][0-9]*", text) or int(text) >= 2**64:
+    if not re.fullmatch("0|[1-9][0-9]*", text) or int(text) >= WORD:
         raise BadLine
     return int(text)
 
@@ -47,158 +56,193 @@ def octets(text):
     return bytes.fromhex(text)
 
 
-def frame(text):
+def form(kind, text):
     try:
-        return least.decode(octets(text))
-    except least.Refused:
+        return kind.decode(octets(text))
+    except Refused:
         raise BadLine from None
 
 
-def shown(data):
-    return data.hex().upper() or "-"
+# The parts of an answer.
+
+def written(kind, value):
+    data = b"" if kind.is_overlong() else kind.frame(value)
+    return f"{kind.length(value)} {shown(data)}"
 
 
-def written(run):
-    data = least.encode(run)
-    return f"{len(data)} {shown(data)}"
+def figures(kind, value):
+    return ",".join(map(str, kind.figures(value)))
 
 
 def refusal(fault):
-    return f"no {fault.number} {fault.place} {least.KIND} kept"
+    return f"no {fault.number} {fault.place} {fault.kind} kept"
 
 
-def outcome(data):
+def outcome(kind, data):
     """What becomes of one of many byte strings."""
     try:
-        again = least.encode(least.decode(data))
-    except least.Refused as fault:
+        again = kind.frame(kind.decode(data))
+    except Refused as fault:
         return refusal(fault)
     return f"ok {len(again)} {'same' if again == data else 'other'}"
 
 
-def outcomes(many):
-    runs = [(len(list(group)), text) for text, group in groupby(map(outcome, many))]
+def outcomes(kind, many):
+    each = (outcome(kind, data) for data in many)
+    runs = [(len(list(group)), text) for text, group in groupby(each)]
     return ", ".join(f"{count}*{text}" for count, text in runs)
 
 
-def kind():
-    return f"{least.KIND} {least.GREATEST_LENGTH} {written([])}"
+def into_room(kind, value, room_size):
+    room = bytes((7 * at + 165) % 256 for at in range(up_to(MOST_ROOM, room_size)))
+    try:
+        length, after = kind.encode(value, room)
+        return f"ok {length} {shown(after)}"
+    except NotWritten as fault:
+        return f"no {fault.number} {shown(room)}"
 
+
+# Lines about no kind.
 
 def item(text):
-    hash_value = least.hash_of(word(text))
-    bucket, rank = least.mark_of(hash_value)
+    hash_value = hash_of(word(text))
+    bucket, rank = mark_of(hash_value)
     return f"{hash_value:016X} {bucket} {rank}"
 
 
 def mark(text):
-    bucket, rank = least.mark_of(word(text))
+    bucket, rank = mark_of(word(text))
     return f"{bucket} {rank}"
 
 
 def outputs(seed, count):
     state, values = number(seed), []
     for _ in range(up_to(MOST_OUTPUTS, count)):
-        values.append(str(least.hash_of(state)))
-        state = (state + 0x9E3779B97F4A7C15) % 2**64
+        values.append(str(hash_of(state)))
+        state = (state + 0x9E3779B97F4A7C15) % WORD
     return " ".join(values) or "-"
 
 
-def reading(tenant, item_text, amount):
-    up_to(2**32 - 1, tenant)
-    word(amount)
-    return written([least.hash_of(word(item_text))])
+def lowest(bits):
+    return str(lowest_zero(up_to(2**32 - 1, bits)))
 
 
-def items(first, step, count):
+# Lines about a kind.
+
+def states(kind):
+    return f"{kind.number} {kind.greatest} {written(kind, kind.empty)}"
+
+
+def reading(kind, tenant, item_text, amount):
+    return written(kind, kind.single(Reading(up_to(2**32 - 1, tenant), word(item_text), word(amount))))
+
+
+def joined_readings(kind, readings):
+    value = kind.join_all(readings)
+    return f"{figures(kind, value)} {written(kind, value)}"
+
+
+def items(kind, first, step, count):
     start, stride, many = word(first), word(step), up_to(MOST_ITEMS, count)
-    run = least.run_of(least.hash_of((start + i * stride) % 2**64) for i in range(many))
-    return f"{least.estimate(run)} {written(run)}"
+    return joined_readings(kind, (Reading(0, (start + i * stride) % WORD, 0) for i in range(many)))
 
 
-def decode(text):
+def tenants(kind, count, modulus, first, step):
+    many, modulus, start, stride = up_to(MOST_TENANTS, count), up_to(2**32 - 1, modulus), word(first), word(step)
+    if modulus == 0:
+        raise BadLine
+    return joined_readings(kind, (
+        Reading(i % modulus, (start + i // 2 * stride) % WORD, i * i % 7) for i in range(many)))
+
+
+def decode(kind, text):
     try:
-        return f"ok {written(least.decode(octets(text)))}"
-    except least.Refused as fault:
+        return f"ok {written(kind, kind.decode(octets(text)))}"
+    except Refused as fault:
         return refusal(fault)
 
 
-def all_next(text):
+def all_next(kind, text):
     front = octets(text)
-    return outcomes(front + bytes([last]) for last in range(256))
+    return outcomes(kind, (front + bytes([last]) for last in range(256)))
 
 
-def cuts(text):
+def cuts(kind, text):
     data = octets(text)
-    return outcomes(data[:length] for length in range(len(data) + 1))
+    return outcomes(kind, (data[:length] for length in range(len(data) + 1)))
 
 
-def changes(text, mask):
+def changes(kind, text, mask):
     data, bits = octets(text), octets(mask)
     if not data or len(bits) != 1:
         raise BadLine
-    return outcomes(
-        data[:at] + bytes([data[at] ^ bits[0]]) + data[at + 1:] for at in range(len(data)))
+    return outcomes(kind, (
+        data[:at] + bytes([data[at] ^ bits[0]]) + data[at + 1:] for at in range(len(data))))
 
 
-def join(one, other):
-    return written(least.join(frame(one), frame(other)))
+def join(kind, one, other):
+    return written(kind, kind.join(form(kind, one), form(kind, other)))
 
 
-def estimate(text):
-    return str(least.estimate(frame(text)))
+def estimate(kind, text):
+    return figures(kind, form(kind, text))
 
 
-def full(last):
-    return str(least.estimate(least.form_of(64, [*range(63), word(last)])))
+def encode(kind, text, room_size):
+    return into_room(kind, form(kind, text), room_size)
 
 
-def encode(text, room_size):
-    run, size = frame(text), up_to(MOST_ROOM, room_size)
-    room = bytes((7 * at + 165) % 256 for at in range(size))
-    try:
-        length, after = least.encode_into(run, room)
-        return f"ok {length} {shown(after)}"
-    except least.NoRoom as fault:
-        return f"no {fault.number} {shown(room)}"
+def room(kind, room_size):
+    return into_room(kind, kind.single(NOUGHT), room_size)
 
 
-def row(count, places):
-    data = octets(places)
-    if len(data) % 8 or len(data) > 512:
+def full(kind, last):
+    if kind is not LEAST:
         raise BadLine
-    values = [int.from_bytes(data[at:at + 8], "big") for at in range(0, len(data), 8)]
-    run = least.form_of(number(count), values + [0] * (64 - len(values)))
-    joined = written(least.join(run, [least.hash_of(0)]))
-    return f"{written(run)} {least.estimate(run)} {joined} {joined}"
+    places = kind.body_of([*range(63), word(last)])
+    return figures(kind, kind.stands_for(64, places))
 
 
-CALLS = {
-    "kind": (kind, 0),
-    "item": (item, 1),
-    "mark": (mark, 1),
-    "outputs": (outputs, 2),
+def row(kind, count, places):
+    data = octets(places)
+    if not isinstance(kind, RunKind) or len(data) % kind.width or len(data) > kind.width * kind.most:
+        raise BadLine
+    run = kind.stands_for(number(count), data)
+    one, other = kind.join(run, kind.single(NOUGHT)), kind.join(kind.single(NOUGHT), run)
+    return f"{written(kind, run)} {figures(kind, run)} {written(kind, one)} {written(kind, other)}"
+
+
+OF_NO_KIND = {"item": (item, 1), "mark": (mark, 1), "outputs": (outputs, 2), "lowest": (lowest, 1)}
+
+OF_A_KIND = {
+    "kind": (states, 0),
     "reading": (reading, 3),
     "items": (items, 3),
+    "tenants": (tenants, 4),
     "decode": (decode, 1),
     "all": (all_next, 1),
     "cuts": (cuts, 1),
     "changes": (changes, 2),
     "join": (join, 2),
     "estimate": (estimate, 1),
-    "full": (full, 1),
     "encode": (encode, 2),
+    "room": (room, 1),
+    "full": (full, 1),
     "row": (row, 2),
 }
 
 
 def answer(line):
     name, *fields = line.split(" ")
-    call, wanted = CALLS.get(name, (None, 0))
+    calls, of = OF_NO_KIND, []
+    if name in KINDS and fields:
+        calls, of = OF_A_KIND, [KINDS[name]]
+        name, *fields = fields
+    call, wanted = calls.get(name, (None, 0))
     if call is None or len(fields) != wanted:
         return "bad line"
     try:
-        return call(*fields)
+        return call(*of, *fields)
     except BadLine:
         return "bad line"
 

@@ -1,431 +1,116 @@
 """Writes the cases and their expected answers, or compares them with the stored ones.
 
-    python3 independent/cases.py            writes crates/trials/stdin and crates/trials/stdout
+    python3 independent/cases.py            writes crates/kind_trials/stdin and crates/kind_trials/stdout
     python3 independent/cases.py --check    compares both with what it would write
-    python3 independent/cases.py --list     counts the cases by sort
+    python3 independent/cases.py --list     counts the cases by kind and sort
 """
 
-import hashlib
 import sys
+from collections import Counter
 from pathlib import Path
 
 sys.dont_write_bytecode = True
 
-from answers import answer, shown
+import bitmap_cases
+import figures
+import general_cases
+import least_cases
+import pair_cases
+import sample_cases
+from answers import answer
+from common_cases import other_kind_cases, room_cases, tenants_cases
+from pair import KINDS
 from stored import write_or_compare
 
-TRIALS = Path(__file__).resolve().parent.parent / "crates" / "trials"
-TOP = 2**64 - 1
+TRIALS = Path(__file__).resolve().parent.parent / "crates" / "kind_trials"
+
+LEAST_SORTS = {
+    **least_cases.SORTS,
+    "tenants": tenants_cases,
+    "a reading into rooms": lambda: room_cases(12),
+    "frames of other kinds": other_kind_cases,
+}
+
+# the sorts of each kind's cases, which stand without the kind's letter
+SORTS = {
+    "v": LEAST_SORTS,
+    "b": bitmap_cases.SORTS,
+    "s": sample_cases.SORTS,
+    "p": pair_cases.sorts("p", (4,), 300),
+    "t": pair_cases.sorts("t", (0, 3), 64),
+    "n": pair_cases.sorts("n", (4,), 300),
+    "o": pair_cases.OVERLONG_SORTS,
+}
 
 
-class Draws:
-    """Numbers that look drawn by lot, and are the same on every machine."""
-
-    def __init__(self, name):
-        self.name = name
-        self.drawn = 0
-
-    def word(self):
-        digest = hashlib.sha256(f"{self.name} {self.drawn}".encode()).digest()
-        self.drawn += 1
-        return int.from_bytes(digest[:8], "big")
-
-    def words(self, count):
-        return [self.word() for _ in range(count)]
-
-    def below(self, limit):
-        return self.word() % limit
-
-    def some(self, values, count):
-        """`count` of the values, at different places."""
-        left = list(values)
-        return [left.pop(self.below(len(left))) for _ in range(count)]
-
-
-def hexed(value):
-    return f"{value:016X}"
-
-
-def run_like(name, count, bits=64):
-    """A run of `count` values below 2 ** bits."""
-    draws, found = Draws(name), set()
-    while len(found) < count:
-        found.add(draws.word() >> (64 - bits))
-    return sorted(found)
-
-
-def packed(kind, count, end, values):
-    """Bytes in the shape of a frame, right or wrong."""
-    body = b"".join(value.to_bytes(8, "big") for value in values)
-    return bytes([kind, count]) + end.to_bytes(2, "big") + body
-
-
-def framed(values, kind=2, count_off=0, end_off=0):
-    return packed(kind, len(values) + count_off, 4 + 8 * len(values) + end_off, values)
-
-
-def item_with(hash_value):
-    """The item that has this hash: the output step taken back."""
-
-    def unshifted(value, bits):
-        found = value
-        for _ in range(64 // bits + 1):
-            found = value ^ found >> bits
-        return found
-
-    z = unshifted(hash_value, 31)
-    z = unshifted(z * pow(0x94D049BB133111EB, -1, 2**64) % 2**64, 27)
-    z = unshifted(z * pow(0xBF58476D1CE4E5B9, -1, 2**64) % 2**64, 30)
-    return (z - 0x9E3779B97F4A7C15) % 2**64
-
-
-def telling_words():
-    near = [0, 1, 2, 3, 7, 8, 31, 32, 63, 64, 65, 127, 128, 255, 256]
-    powers = [2**k + d for k in (16, 31, 32, 33, 48, 62, 63) for d in (-1, 0, 1)]
-    return near + powers + [TOP - 64, TOP - 1, TOP]
-
-
-def rare_hashes():
-    """Hashes of high rank: 29 zeros and more, with each kind of bucket beside them."""
-    found = []
-    for zeros in range(28, 58):
-        for bucket in (0, 1, 47, 63):
-            found.append((1 << zeros + 6) + bucket)
-        if zeros < 56:
-            found.append((5 << zeros + 6) % 2**64 + 21)
-    return found + list(range(64))[::7] + [63]
-
-
-def hash_cases():
-    yield "kind"
-    for value in telling_words():
-        yield f"item {hexed(value)}"
-    for value in Draws("items").words(150):
-        yield f"item {hexed(value)}"
-    for value in [0, 1, 63, 64, TOP] + rare_hashes()[::2]:
-        yield f"item {hexed(item_with(value))}"
-
-
-def mark_cases():
-    for value in telling_words() + rare_hashes():
-        yield f"mark {hexed(value)}"
-    for value in Draws("marks").words(100):
-        yield f"mark {hexed(value)}"
-    for zeros in range(28):
-        yield f"mark {hexed((2 * zeros + 1 << zeros + 6) + zeros)}"
-
-
-def output_cases():
-    for seed in [1234567, 0, 1, 42, TOP]:
-        yield f"outputs {seed} 5"
-    yield "outputs 1234567 64"
-    yield "outputs 7 0"
-
-
-def reading_cases():
-    yield f"reading 0 {hexed(0)} {hexed(0)}"
-    draws = Draws("readings")
-    for value in telling_words()[::2] + [item_with(h) for h in (0, 1, TOP)] + draws.words(20):
-        tenant = draws.below(2**32)
-        yield f"reading {tenant} {hexed(value)} {hexed(draws.word())}"
-    for tenant in (0, 2**32 - 1):
-        for amount in (0, TOP):
-            yield f"reading {tenant} {hexed(9)} {hexed(amount)}"
-
-
-def items_cases():
-    for count in (0, 1, 2, 3, 10, 63, 64, 65, 100, 1000, 10000):
-        yield f"items {hexed(0)} {hexed(1)} {count}"
-    for count in (5, 64, 66, 500):
-        yield f"items {hexed(TOP - 20)} {hexed(1)} {count}"
-        yield f"items {hexed(12345)} {hexed(0x9E3779B97F4A7C15)} {count}"
-    yield f"items {hexed(77)} {hexed(0)} 200"
-    yield f"items {hexed(0)} {hexed(2**63)} 200"
-    yield f"items {hexed(0)} {hexed(2**59)} 200"
-    yield f"items {hexed(0)} {hexed(2**57)} 300"
-
-
-def short_cases():
-    """Every byte string of up to two bytes, and some of three."""
-    yield "decode -"
-    yield "all -"
-    for first in range(256):
-        yield f"all {first:02X}"
-    for front in ("0000", "0200", "0240", "02FF", "FFFF"):
-        yield f"all {front}"
-
-
-def header_cases():
-    """Every last byte after telling first ones, with no body and with bodies."""
-    for kind in (0, 1, 2, 3, 5, 255):
-        for count in (0, 1, 2, 3, 63, 64, 65, 66, 127, 128, 255):
-            for high in (0, 1, 2, 255):
-                yield f"all {kind:02X}{count:02X}{high:02X}"
-    for values in ([5], [5, 9], [9, 5]):
-        for kind in (1, 2, 3):
-            for count in (0, 1, 2, 3, 64, 65):
-                for end in (0, 4, 11, 12, 13, 20, 28, 268, 516):
-                    yield f"decode {shown(packed(kind, count, end, values))}"
-
-
-def last_byte_cases():
-    """Every last byte of the last value."""
-    for values in ([0], [0, 0], [127, 0], [128, 0], [255, 0], [255, 256], [2**63, 2**63 + 256],
-                   [1, 2, 0], run_like("last byte", 5)):
-        yield f"all {shown(framed(values)[:-1])}"
-    for last in (0, 2**40, TOP - 255):
-        yield f"all {shown(framed([*range(63), last])[:-1])}"
-
-
-def cut_cases():
-    for count in range(65):
-        yield f"cuts {shown(framed(run_like(f'cut {count}', count)))}"
-    yield f"cuts {shown(framed(run_like('cut wrong', 6)[::-1]))}"
-    values = run_like("cut and mended", 4)
-    whole = framed(values)
-    for length in range(4, len(whole)):
-        yield f"decode {shown(packed(2, 4, length, values)[:length])}"
-        yield f"decode {shown(packed(2, (length - 4) // 8, length, values)[:length])}"
-
-
-def change_cases():
-    for count in (0, 1, 2, 3, 8, 33, 63, 64):
-        data = framed(run_like(f"change {count}", count))
-        for mask in ("01", "80", "FF"):
-            yield f"changes {shown(data)} {mask}"
-    close = framed([2**63 + 3 * i for i in range(20)])
-    for mask in ("00", "01", "02", "04", "10"):
-        yield f"changes {shown(close)} {mask}"
-
-
-def order_cases():
-    """Neighbours that are equal or fall."""
-    for count in (2, 3, 5, 8, 17, 64):
-        run = run_like(f"order {count}", count)
-        for i in range(1, count) if count < 64 else (1, 2, 31, 32, 62, 63):
-            yield f"decode {shown(framed([*run[:i], run[i - 1], *run[i + 1:]]))}"
-            yield f"decode {shown(framed([*run[:i - 1], run[i], run[i - 1], *run[i + 1:]]))}"
-    for values in ([0, 0], [TOP, TOP], [TOP, 0], [0, TOP], [1, 0], [0, 1], [0, 0, 0], [0, 1, 1],
-                   [1, 1, 0], [1, 3, 2, 2], [2**32, 2**32 - 1], [2**32 - 1, 2**32], [255, 256],
-                   [256, 255], [2**56, 255], [255, 2**56], [1, 2, 3, 4, 4, 3, 2, 1]):
-        yield f"decode {shown(framed(values))}"
-    yield f"decode {shown(framed([7] * 64))}"
-    yield f"decode {shown(framed(list(range(64))))}"
-    yield f"decode {shown(framed([TOP - 63 + i for i in range(64)]))}"
-    yield f"decode {shown(framed(list(range(63)) + [62]))}"
-
-
-def count_cases():
-    """Counts and ends that are off, and 65 values."""
-    for count in (0, 1, 2, 3, 8, 63, 64):
-        run = run_like(f"off {count}", count)
-        for count_off, end_off in ((1, 0), (-1, 0), (0, 1), (0, -1), (1, 8), (-1, -8), (0, 256),
-                                   (1, 1), (0, 8)):
-            if count + count_off >= 0:
-                data = framed(run, count_off=count_off, end_off=end_off)
-                yield f"decode {shown(data)}"
-    more = run_like("sixty-five", 66)
-    yield f"decode {shown(framed(more[:65]))}"
-    yield f"decode {shown(framed(more[:65][::-1]))}"
-    yield f"decode {shown(framed(more[:65], count_off=-1))}"
-    yield f"decode {shown(framed(more[:65], count_off=-1, end_off=-8))}"
-    yield f"decode {shown(framed(more))}"
-    yield f"decode {shown(framed(more[:65], kind=1))}"
-
-
-def tail_cases():
-    """Bytes added at the end."""
-    for count in (0, 1, 2, 8, 64):
-        run = run_like(f"tail {count}", count)
-        for added in (1, 2, 4, 7, 8, 16):
-            tail = bytes((255 - at) % 256 for at in range(added))
-            yield f"decode {shown(framed(run) + tail)}"
-            yield f"decode {shown(framed(run, end_off=added) + tail)}"
-            if added % 8 == 0 and count < 64:
-                yield f"decode {shown(framed(run, count_off=added // 8, end_off=added) + tail)}"
-
-
-def frame_cases():
-    for count in (0, 1, 2, 3, 4, 7, 16, 32, 62, 63, 64):
-        yield f"decode {shown(framed(run_like(f'whole {count}', count)))}"
-    for value in (0, 1, 255, 256, 2**32 - 1, 2**32, 2**63, TOP):
-        yield f"decode {shown(framed([value]))}"
-
-
-def join_cases():
-    def joined(one, other):
-        return f"join {shown(framed(one))} {shown(framed(other))}"
-
-    draws = Draws("joins")
-    full = run_like("join full", 64)
-    yield joined([], [])
-    yield joined([0], [0])
-    yield joined([0], [])
-    yield joined([TOP], [0])
-    yield joined([1, 3], [2, 3])
-    for count in (1, 5, 63, 64):
-        run = run_like(f"join {count}", count)
-        yield joined(run, [])
-        yield joined([], run)
-        yield joined(run, run)
-    for left, right in ((1, 1), (2, 1), (1, 2), (3, 5), (10, 10), (31, 33), (32, 32), (33, 32),
-                        (63, 1), (1, 63), (64, 1), (1, 64), (63, 2), (64, 64)):
-        yield joined(run_like(f"join left {left} {right}", left),
-                     run_like(f"join right {left} {right}", right))
-    # drawn from few values, so that many are in both
-    for left, right, pool in ((4, 4, 6), (8, 8, 10), (20, 30, 40), (40, 40, 50), (40, 40, 64),
-                              (40, 40, 65), (64, 64, 65), (64, 64, 100), (64, 20, 70)):
-        values = run_like(f"pool {left} {right} {pool}", pool)
-        yield joined(sorted(draws.some(values, left)), sorted(draws.some(values, right)))
-    # one run wholly below the other, one between the places of the other, all but one the same
-    yield joined(list(range(64)), [1000 + i for i in range(64)])
-    yield joined([1000 + i for i in range(64)], list(range(64)))
-    yield joined([2 * i for i in range(64)], [2 * i + 1 for i in range(64)])
-    yield joined([2 * i for i in range(32)], [2 * i + 1 for i in range(32)])
-    yield joined([2 * i for i in range(33)], [2 * i + 1 for i in range(32)])
-    yield joined(full, full[:-1])
-    yield joined(full[1:], full)
-    yield joined(full, [0])
-    yield joined(full, [TOP])
-    yield joined([full[-1]], full)
-    yield joined([full[-1] - 1], full)
-    yield joined([full[-1] + 1], full)
-    yield joined(full[:63], [full[-1] + 1, full[-1] + 2])
-    yield joined([TOP - 63 + i for i in range(64)], [0, TOP])
-
-
-def estimate_cases():
-    for count in (0, 1, 2, 3, 10, 31, 32, 62, 63):
-        yield f"estimate {shown(framed(run_like(f'estimate {count}', count)))}"
-    yield f"estimate {shown(framed([TOP]))}"
-    yield f"estimate {shown(framed([TOP - 62 + i for i in range(63)]))}"
-    for upper in (0, 1, 0x7FFFFFFF, 0xFFFFFFFF):
-        for lower in (2**31, 2**32 - 1):
-            below = run_like(f"below {upper} {lower}", 63, bits=31)
-            yield f"estimate {shown(framed([*below, upper * 2**32 + lower]))}"
-    for bits in (7, 8, 16, 33, 40, 50, 60, 64):
-        yield f"estimate {shown(framed(run_like(f'estimate full {bits}', 64, bits)))}"
-
-
-def full_cases():
-    """Sixty-three small values and a last one."""
-    for last in (0, 1, 61, 62, 63, 64, 2**32 - 1):
-        yield f"full {hexed(last)}"
-    for upper in (1, 2, 3, 61, 62, 63, 64, 65, 125, 126, 127, 128, 4095, 65535, 0x01FFFFFF,
-                  0x3FFFFFFF, 0x7FFFFFFE, 0x7FFFFFFF, 0x80000000, 0xFBFFFFFF, 0xFC000000,
-                  0xFFFFFFFE, 0xFFFFFFFF):
-        for lower in (0, 0xFFFFFFFF):
-            yield f"full {hexed(upper * 2**32 + lower)}"
-    draws = Draws("full")
-    for bits in range(33, 65):
-        for _ in range(3):
-            yield f"full {hexed(draws.word() >> (64 - bits) | 1 << bits - 1)}"
-
-
-def encode_cases():
-    for count, rooms in ((0, range(10)), (1, range(18)), (2, range(17, 24)), (5, range(41, 48)),
-                         (63, (507, 508, 509)), (64, (0, 1, 3, 4, 12, 514, 515, 516, 517, 530))):
-        frame = shown(framed(run_like(f"room {count}", count)))
-        for room in rooms:
-            yield f"encode {frame} {room}"
-
-
-def row_cases():
-    def line(count, values):
-        return f"row {count} {shown(framed(values)[4:])}"
-
-    for count in (0, 1, 2, 64, 65, 66, 2**32, TOP):
-        yield line(count, [])
-    for count in (0, 1, 2, 3, 4, 5, 64, 65):
-        yield line(count, [10, 20, 30])
-    for values in ([0], [0, 0], [0, 1], [1, 0], [1, 1], [0, 5, 9], [5, 9, 0], [9, 5, 0], [TOP]):
-        for count in (len(values) - 1, len(values), len(values) + 1):
-            yield line(count, values)
-    run = run_like("row", 64)
-    for count in (0, 32, 62, 63, 64, 65, 128, 2**63, TOP):
-        yield line(count, run)
-    yield line(63, run[:63])
-    yield line(62, run[:63])
-    yield line(64, run[:63])
-    yield line(64, run[::-1])
-    yield line(64, [*run[:63], run[62]])
-    yield line(64, [run[1], run[0], *run[2:]])
-    yield line(64, [*run[:31], run[32], run[31], *run[33:]])
-    yield line(1, [run[0]] + [0] * 62 + [1])
-    yield line(64, [*range(64)])
-    yield line(3, [*range(3)])
-    yield line(3, [0, 1, 2] + [0] * 61)
+def bad_fields():
+    """Lines that are of no form whichever kind's letter stands in front."""
+    yield from ("", " ", "nothing", "Kind", "kind 2", "kind ", "item 0000000000000000", "mark 0000000000000000",
+                "outputs 1 1", "lowest 7", "v kind", "reading 4294967296 0000000000000000 0000000000000000",
+                "reading 0 0000000000000000", "reading 0 0 0", "items 0000000000000000 0000000000000001 65537",
+                "items 0000000000000000 1 1", "tenants 4097 1 0000000000000000 0000000000000001",
+                "tenants 1 0 0000000000000000 0000000000000001", "tenants 1 1 0000000000000000",
+                "tenants 1 4294967296 0000000000000000 0000000000000001", "tenants 1 1 0 1", "decode", "decode ",
+                "decode 0", "decode 020000040", "decode 0200000a", "decode 0x02", "decode --", "decode - -", "all",
+                "cuts", "changes - 01", "changes 02000004 0101", "changes 02000004 -", "changes 02000004",
+                "join 02000004", "join 02000004 02000005", "join - 02000004", "estimate 0200", "estimate -", "full 0",
+                "encode 02000004", "encode 02000004 2101", "encode 02000004 -1", "encode 02000005 9", "room",
+                "room 2101", "room 01", "room -", "row 1 00", "row -1 -", "row 18446744073709551616 -", "row 3",
+                "row 32 " + "00" * 660, "row 64 " + "00" * 648)
 
 
 def bad_cases():
     yield from ("", " ", "nothing", "Item 0000000000000000", "item", "item ", "item 0",
                 "item 00000000000000000", "item 000000000000000g", "item 00000000000000af",
                 "item  0000000000000000", "item 0000000000000000 ", " item 0000000000000000",
-                "item 0000000000000000 0000000000000000", "mark", "mark -", "kind 2",
+                "item 0000000000000000 0000000000000000", "mark", "mark -", "kind", "kind 2",
                 "outputs 1 65", "outputs 01 5", "outputs +1 5", "outputs -1 5", "outputs 1",
-                "outputs 18446744073709551616 1", "outputs 99999999999999999999999 1",
-                "reading 4294967296 0000000000000000 0000000000000000",
-                "reading 0 0000000000000000", "items 0000000000000000 0000000000000001 65537",
-                "decode", "decode ", "decode 0", "decode 020000040", "decode 0200000a",
-                "decode 0x02", "decode --", "decode - -", "all", "cuts", "changes - 01",
-                "changes 02000004 0101", "changes 02000004 -", "changes 02000004",
-                "join 02000004", "join 02000004 02000005", "join - 02000004",
-                "estimate 0200", "full 0", "encode 02000004", "encode 02000004 1025",
-                "encode 02000004 -1", "encode 02000005 9", "row 1 00", "row -1 -",
-                "row 18446744073709551616 -", "row 3", "row 64 " + "00" * 520)
+                "outputs 18446744073709551616 1", "outputs 99999999999999999999999 1", "lowest", "lowest -",
+                "lowest 4294967296", "lowest 00", "lowest 7 7", "lowest 00000007 ", "v", "p", "x kind", "V kind",
+                "vv kind", "5 kind", " v kind", "v  kind", "decode 02000004", "room 4", "b full 0000000000000000",
+                "s full 0000000000000000", "p full 0000000000000000", "o full 0000000000000000", "b row 0 -",
+                "p row 0 -", "t row 0 -", "n row 0 -", "o row 0 -", "s row 1 " + "00" * 8, "s row 1 " + "00" * 19,
+                "v row 1 " + "00" * 20, "v row 64 " + "00" * 520)
+    for letter in KINDS:
+        for fields in bad_fields():
+            yield f"{letter} {fields}"
 
 
-SORTS = {
-    "hashes of items": hash_cases,
-    "marks of hashes": mark_cases,
-    "outputs of the generator": output_cases,
-    "readings": reading_cases,
-    "many readings joined": items_cases,
-    "every short byte string": short_cases,
-    "headers": header_cases,
-    "every last byte": last_byte_cases,
-    "whole frames": frame_cases,
-    "cut frames": cut_cases,
-    "changed bytes": change_cases,
-    "equal and falling neighbours": order_cases,
-    "counts and ends off": count_cases,
-    "bytes added": tail_cases,
-    "joins": join_cases,
-    "estimates of frames": estimate_cases,
-    "estimates of full rows": full_cases,
-    "encodes into rooms": encode_cases,
-    "plain rows": row_cases,
-    "bad lines": bad_cases,
-}
-
-# figures that were published or worked out apart from this code
-FIGURES = {
-    "item 0000000000000000": "E220A8397B1DCDAF 47 1",
-    "mark 0000000000000000": "0 31",
-    "kind": "2 516 4 02000004",
-    "reading 7 0000000000000000 00000000000001F4": "12 0201000CE220A8397B1DCDAF",
-    "full 7FFFFFFF00000000": "126",
-    "outputs 1234567 5": "6457827717110365317 3203168211198807973 9817491932198370423 "
-                         "4593380528125082431 16408922859458223821",
-}
+def all_cases():
+    """The case lines by sort."""
+    by_sort = {("", name): list(cases()) for name, cases in general_cases.SORTS.items()}
+    for letter, sorts in SORTS.items():
+        by_sort[letter, "the kind itself"] = [f"{letter} kind"]
+        for name, cases in sorts.items():
+            by_sort[letter, name] = [f"{letter} {line}" for line in cases()]
+    by_sort["", "figures"] = list(figures.LINES)
+    by_sort["", "bad lines"] = list(bad_cases())
+    return by_sort
 
 
-def check_figures():
-    for line, figure in FIGURES.items():
-        if answer(line) != figure:
-            sys.exit(f"{line!r} gives {answer(line)!r}, and not the figure {figure!r}")
+def tell(by_sort, lines, found):
+    for (letter, name), cases in by_sort.items():
+        print(f"{len(cases):6} {letter or ' '} {name}")
+    print(f"{len(lines):6} in all")
+    kinds, refusals = Counter(), Counter()
+    for line, text in zip(lines, found):
+        letter = line.split(" ")[0]
+        kinds[letter if letter in KINDS else "no kind"] += 1
+        if text.startswith("no ") and text.endswith(" kept") and "," not in text:
+            refusals[letter, text.split(" ")[1], text.split(" ")[3]] += 1
+    print(", ".join(f"{letter}: {count}" for letter, count in kinds.items()))
+    for letter in KINDS:
+        told = [f"{n} in kind {k}: {c}" for (l, n, k), c in sorted(refusals.items(), key=str) if l == letter]
+        print(f"single decodes refused, {letter}:", ", ".join(told))
 
 
 def main(arguments):
-    check_figures()
-    by_sort = {name: list(cases()) for name, cases in SORTS.items()}
-    by_sort["figures"] = list(FIGURES)
+    figures.check_figures()
+    by_sort = all_cases()
     lines = [line for cases in by_sort.values() for line in cases]
     made = {"stdin": lines, "stdout": [answer(line) for line in lines]}
     if arguments == ["--list"]:
-        for name, cases in by_sort.items():
-            print(f"{len(cases):6} {name}")
-        print(f"{len(lines):6} in all")
+        tell(by_sort, *made.values())
         return 0
     return write_or_compare(TRIALS, made, arguments, __doc__)
 

@@ -7,7 +7,11 @@
 import sys
 from pathlib import Path
 
-import least
+sys.dont_write_bytecode = True
+
+from kinds import Refused
+from least import LEAST
+from readings import Reading
 from stored import write_or_compare
 
 FOLDER = Path(__file__).resolve().parent.parent / "crates" / "exchange"
@@ -19,16 +23,16 @@ def shown(frame):
 
 def transcript():
     """The whole afternoon of three hosts, line by line."""
-    held = {"alpha": [], "beta": [], "gamma": []}
+    held = dict.fromkeys(["alpha", "beta", "gamma"], LEAST.empty)
     lines = []
 
     def take(name, frame):
         try:
-            held[name] = least.join(held[name], least.decode(frame))
-        except least.Refused as fault:
-            lines.append(f"   {name} refuses it: number {fault.number}, at byte {fault.place}, in kind {least.KIND}")
+            held[name] = LEAST.join(held[name], LEAST.decode(frame))
+        except Refused as fault:
+            lines.append(f"   {name} refuses it: number {fault.number}, at byte {fault.place}, in kind {fault.kind}")
         else:
-            lines.append(f"   {name} takes it, and has a frame of {len(least.encode(held[name]))} bytes now")
+            lines.append(f"   {name} takes it, and has a frame of {len(LEAST.frame(held[name]))} bytes now")
 
     def compare(one, first, other, second):
         lines.append(f"   {one}: {shown(first)}")
@@ -37,12 +41,12 @@ def transcript():
 
     lines.append("1. The hosts count clients.")
     for name, tenant, item in [("alpha", 7, 0), ("alpha", 7, 1), ("beta", 8, 1), ("beta", 8, 2)]:
-        held[name] = least.join(held[name], [least.hash_of(item)])
+        held[name] = LEAST.join(held[name], LEAST.single(Reading(tenant, item, 0)))
         lines.append(f"   {name} sees client {item} of tenant {tenant}")
-    late = least.encode(held["alpha"])
+    late = LEAST.frame(held["alpha"])
     lines.append("2. By way of beta: alpha sends to beta, and beta to gamma.")
     for sender, receiver in [("alpha", "beta"), ("beta", "gamma")]:
-        frame = least.encode(held[sender])
+        frame = LEAST.frame(held[sender])
         lines.append(f"   {sender} sends {shown(frame)}")
         take(receiver, frame)
     lines.append("3. Straight from alpha: its frame of before, late, and then once more.")
@@ -50,15 +54,15 @@ def transcript():
     take("gamma", late)
     take("gamma", late)
     lines.append("4. The links are quiet.")
-    compare("beta", least.encode(held["beta"]), "gamma", least.encode(held["gamma"]))
+    compare("beta", LEAST.frame(held["beta"]), "gamma", LEAST.frame(held["gamma"]))
     lines.append("5. A frame that was cut on the way.")
-    cut = least.encode(held["beta"])[:19]
-    before = least.encode(held["gamma"])
+    cut = LEAST.frame(held["beta"])[:19]
+    before = LEAST.frame(held["gamma"])
     lines.append(f"   it is {shown(cut)}")
     take("gamma", cut)
-    compare("gamma before", before, "gamma after", least.encode(held["gamma"]))
+    compare("gamma before", before, "gamma after", LEAST.frame(held["gamma"]))
     lines.append("6. How many clients does the rack have?")
-    lines.append(f"   gamma counts {least.estimate(held['gamma'])} different clients")
+    lines.append(f"   gamma counts {LEAST.estimate(held['gamma'])} different clients")
     return lines
 
 

@@ -1,14 +1,15 @@
-"""A network of hosts that pass least values to each other, by its rules alone.
+"""A network of hosts that pass synopses of one kind to each other, by its rules alone.
 
 It has 1 to 16 nodes, none until it is opened, and 32 slots. Every call is brought a front part of
 the values and of the memory. The rules of what is refused stand once, in `Rules`; what a node
-holds and which slots are filled is told in two ways. `ByState` keeps runs and slots. `ByPaths`
+holds and which slots are filled is told in two ways. `ByState` keeps forms and slots. `ByPaths`
 keeps only which calls were accepted, and joins what has a path to the node.
 """
 
 from typing import NamedTuple
 
-from least import KIND, Refused, decode, encode, hash_of, join
+from kinds import Refused
+from readings import Reading
 
 MOST_NODES = 16
 SLOTS = 32
@@ -66,22 +67,22 @@ class No(Exception):
         return "no " + "/".join(str(part) for part in self.args)
 
 
-def told_by(call):
-    """The run that a call brings from outside."""
-    if isinstance(call, Generate):
-        return [hash_of(call.item)]
-    try:
-        return decode(call.frame)
-    except Refused as fault:
-        raise No(fault.number, fault.place, KIND) from None
-
-
 class Rules:
     """What is refused and what is answered, whichever way the rest is known."""
 
-    def __init__(self, values, memory):
+    def __init__(self, kind, values, memory):
+        self.kind = kind
         self.values = values
         self.memory = memory
+
+    def told_by(self, call):
+        """The form that a call brings from outside."""
+        if isinstance(call, Generate):
+            return self.kind.single(Reading(call.tenant, call.item, call.amount))
+        try:
+            return self.kind.decode(call.frame)
+        except Refused as fault:
+            raise No(fault.number, fault.place, fault.kind) from None
 
     def answer(self, turn):
         try:
@@ -100,6 +101,8 @@ class Rules:
             raise No(1)
         if values < nodes or memory < MEMORY:
             raise No(2)
+        if self.kind.is_overlong():
+            raise No(3)
         for part in call._fields:
             if part == "node" and call.node >= nodes:
                 raise No(4)
@@ -110,53 +113,56 @@ class Rules:
         if isinstance(call, (Deliver, Drop)) and not self.is_filled(call.slot):
             raise No(6)
         if isinstance(call, Arrive):
-            told_by(call)
+            self.told_by(call)
         if not isinstance(call, Read):
             return "ok"
-        frame = encode(self.run_at(call.node))
+        frame = self.kind.frame(self.form_at(call.node))
         if call.room < len(frame):
             raise No(8)
         return frame.hex().upper()
 
 
 class ByState(Rules):
-    """A run for each node, and the bytes in each filled slot."""
+    """A form for each node, and the bytes in each filled slot."""
 
-    def __init__(self, values, memory):
-        super().__init__(values, memory)
-        self.runs = []
+    def __init__(self, kind, values, memory):
+        super().__init__(kind, values, memory)
+        self.forms = []
         self.slots = {}
 
     def count(self):
-        return len(self.runs)
+        return len(self.forms)
 
     def is_filled(self, slot):
         return slot in self.slots
 
-    def run_at(self, node):
-        return self.runs[node]
+    def form_at(self, node):
+        return self.forms[node]
+
+    def take(self, node, form):
+        self.forms[node] = self.kind.join(self.forms[node], form)
 
     def note(self, call, accepted):
         if not accepted or isinstance(call, Read):
             return
         if isinstance(call, Open):
-            self.runs = [[] for _ in range(call.nodes)]
+            self.forms = [self.kind.empty] * call.nodes
             self.slots = {}
         elif isinstance(call, Send):
-            self.slots[call.slot] = encode(self.runs[call.node])
+            self.slots[call.slot] = self.kind.frame(self.forms[call.node])
         elif isinstance(call, Drop):
             del self.slots[call.slot]
         elif isinstance(call, Deliver):
-            self.runs[call.node] = join(self.runs[call.node], decode(self.slots[call.slot]))
+            self.take(call.node, self.kind.decode(self.slots[call.slot]))
         else:
-            self.runs[call.node] = join(self.runs[call.node], told_by(call))
+            self.take(call.node, self.told_by(call))
 
 
 class ByPaths(Rules):
     """The calls so far with whether they were accepted, and nothing else."""
 
-    def __init__(self, values, memory):
-        super().__init__(values, memory)
+    def __init__(self, kind, values, memory):
+        super().__init__(kind, values, memory)
         self.history = []
 
     def note(self, call, accepted):
@@ -185,7 +191,7 @@ class ByPaths(Rules):
                         sent < at < delivered and drop.slot == send.slot for at, drop in drops):
                     yield sent, send.node, delivered, deliver.node
 
-    def run_at(self, node):
+    def form_at(self, node):
         """The join of what has a path to the node: hops one after another, at rising turns."""
         hops = list(self.hops())
         # what a node was told before this turn has a path
@@ -197,16 +203,16 @@ class ByPaths(Rules):
                 if delivered < until.get(receiver, -1) and until.get(sender, -1) < sent:
                     until[sender] = sent
                     grown = True
-        run = []
+        form = self.kind.empty
         for at, call in self.since_open(Generate, Arrive):
             if at < until.get(call.node, -1):
-                run = join(run, told_by(call))
-        return run
+                form = self.kind.join(form, self.told_by(call))
+        return form
 
 
-def answers(values, memory, turns):
+def answers(kind, values, memory, turns):
     """What the turns answer, after both ways were seen to agree on each and on all nodes."""
-    state, paths = ByState(values, memory), ByPaths(values, memory)
+    state, paths = ByState(kind, values, memory), ByPaths(kind, values, memory)
     found = []
     for turn in turns:
         one, other = state.answer(turn), paths.answer(turn)
@@ -214,7 +220,7 @@ def answers(values, memory, turns):
         found.append(one)
     assert state.count() == paths.count()
     for node in range(state.count()):
-        assert state.run_at(node) == paths.run_at(node), node
+        assert state.form_at(node) == paths.form_at(node), node
     for slot in range(SLOTS):
         assert state.is_filled(slot) == paths.is_filled(slot), slot
     return found
