@@ -7,29 +7,28 @@ use Rattle.histories.specs.declared.Call.{Call}
 use Rattle.histories.specs.declared.Call.TheVariants.{Generate, Arrive, Send, Deliver, Drop, Read}
 use Rattle.histories.specs.Folds.{read_as}
 use Rattle.network.specs.declared.fault.NetworkFault.{NetworkFault}
-use Rattle.network.specs.declared.fault.NetworkFault.TheVariants.{Brought, Overlong, NoNode, Room}
 use Rattle.network.specs.Calls.{unless, ready, no_node, beyond, slot_start, no_slot, placed, slot_of, switched, read_answer, deliver_answer}
 use Rattle.diffusion.proofs.Lying.{front_frame}
 use Rattle.diffusion.specs.Turns.{Told, is_accepted, plainly, with_bytes, State, form_of, call_tells, fused, call_leaves}
 
 -- an accepted answer met none of the refusals
-pub plain_on : (b : Bool) (e : NetworkFault) (rest : Result (Unit {0}) NetworkFault) → is_accepted (plainly (unless b e rest)) ≡ true → (b ≡ false) × (is_accepted (plainly rest) ≡ true)
+pub plain_on : (b : Bool) (e : ℕ) (rest : Result (Unit {0}) NetworkFault) → is_accepted (plainly (unless b e rest)) ≡ true → (b ≡ false) × (is_accepted (plainly rest) ≡ true)
 plain_on true e rest q = absurd (subst T (sym q) tt)
 plain_on false e rest q = (refl, q)
 
 module _ (k : Kind) (st : State k) (v m : ℕ) where
   pub ready_on : (rest : Result (Unit {0}) NetworkFault) → is_accepted (plainly (ready k st.net v m rest)) ≡ true → (st.net.count ≤ v) × (65536 ≤ m) × (overlong k ≡ false) × (is_accepted (plainly rest) ≡ true)
   ready_on rest q =
-      let a = plain_on _ _ _ q in
-      let b = plain_on _ _ _ a.1 in
+      let a = plain_on _ 2 _ q in
+      let b = plain_on _ 3 _ a.1 in
       let c = or_parts (ltb v st.net.count) (ltb m 65536) a.0 in
       (ltb-false v st.net.count c.0, ltb-false m 65536 c.1, b.0, b.1)
 
   pub node_on : (n : ℕ) (rest : Result (Unit {0}) NetworkFault) → is_accepted (plainly (no_node k st.net v m n rest)) ≡ true → (n < st.net.count) × (is_accepted (plainly rest) ≡ true)
-  node_on n rest q = let a = plain_on _ _ _ q in (leb-false st.net.count n a.0, a.1)
+  node_on n rest q = let a = plain_on _ 4 _ q in (leb-false st.net.count n a.0, a.1)
 
   pub slot_on : (s : ℕ) (rest : Result (Unit {0}) NetworkFault) → is_accepted (plainly (beyond k st.net v m s rest)) ≡ true → (s < 32) × (is_accepted (plainly rest) ≡ true)
-  slot_on s rest q = let a = plain_on _ _ _ q in (leb-false 32 s a.0, a.1)
+  slot_on s rest q = let a = plain_on _ 5 _ q in (leb-false 32 s a.0, a.1)
 
 -- the front of a list, set or read, and then the rest
 pub front_set : {A : Type 0} (xs : List A) (v n : ℕ) (x : A) → n < v → v ≤ length xs → set (take v xs) n x ++ drop v xs ≡ set xs n x
@@ -70,7 +69,7 @@ module _ (k : Kind) (laws : Laws k) (st : State k) (v m : ℕ) (values : v ≤ l
   read_beyond n room x y le = by (ltb v st.net.count) (ltb m 65536) (overlong k) (leb st.net.count n) (λ f. le-leb st.net.count n (let low = ltb-false v st.net.count f in omega arith)) refl
     where
       answer : k.Form → (a b c d : Bool) → Told
-      answer z a b c d = with_bytes (k.encoding z) (unless (a || b) Brought (unless c Overlong (unless d NoNode (unless (ltb room (length (k.encoding z))) Room (Ok (length (k.encoding z)))))))
+      answer z a b c d = with_bytes (k.encoding z) (unless (a || b) 2 (unless c 3 (unless d 4 (unless (ltb room (length (k.encoding z))) 8 (Ok (length (k.encoding z)))))))
 
       by : (a b c d : Bool) → (a ≡ false → d ≡ true) → ltb v st.net.count ≡ a → answer x a b c d ≡ answer y a b c d
       by true b c d f e = refl

@@ -1,18 +1,29 @@
 -- A turn, from the call that it makes with its front part of the values and of the memory.
-use Rattle.std.proofs.Common.{◌≡◌, ℕ, ◌-◌, ◌≤◌, min, Bool, true, false, cond, List, ◌++◌, map, length, take, drop, Ok, Err, Result, IfOk, MatchResult, sym, refl, ap, ◌∙◌, arith}
+use Rattle.std.proofs.Common.{◌≡◌, ℕ, ◌-◌, ◌≤◌, min, Bool, true, false, cond, List, ◌++◌, map, length, take, drop, sym, refl, ap, ◌∙◌, arith, ◌<◌, get_or, None, Some, Option, subst, ⊎_elim}
 use borrow.Rule.Slice.PartMut.{post_of}
-use Rattle.std.proofs.lemmas.List.{take-map, drop-map, map-append, length-map, length-take, take-append-drop}
+use Rattle.std.proofs.lemmas.List.{take-map, drop-map, map-append, length-map, length-take, take-append-drop, get_or_append_left, get_or-append_right}
+use Rattle.std.proofs.lemmas.Bool.{cases_lt}
 use Rattle.synopsis.specs.Kind.{Kind, Laws}
 use Rattle.histories.specs.declared.Turn.{Turn}
-use Rattle.network.specs.declared.table.Network.{Network}
-use Rattle.diffusion.specs.Turns.{Told, is_accepted, TurnAnswer, tells, State, state_of, call_tells, call_leaves, call_after, turn_tells, turn_leaves}
+use Rattle.network.specs.Tables.{Table}
+use Rattle.diffusion.specs.Turns.{Told, is_accepted, written_by, SameBut, State, state_of, call_tells, call_leaves, call_after, turn_tells, turn_leaves}
 use Rattle.diffusion.proofs.Fronts.{front, whole, front_same, front_tells, front_leaves}
 
--- what a part and what lies behind it come to, where the part is as it was
-pub part_same : {A : Type 0} (xs part : List A) (v : ℕ) → part ≡ take (v - 0) xs → part ++ post_of 0 (v - 0) xs ≡ xs
-part_same xs part v e = ap (λ l. l ++ drop (v - 0) xs) e ∙ take-append-drop (v - 0) xs
+-- two front parts that agree at a place agree there before the same rest
+same_before : {S : Type 0} (xs ys zs : List S) (i : ℕ) (d : S) → length xs ≡ length ys → get_or xs i d ≡ get_or ys i d → get_or (xs ++ zs) i d ≡ get_or (ys ++ zs) i d
+same_before xs ys zs i d long e =
+    ⊎_elim
+    (λ lt. let here : i < length ys = omega arith in get_or_append_left xs zs d i lt ∙ e ∙ sym (get_or_append_left ys zs d i here))
+    (λ ge. get_or-append_right xs zs (length xs) i d refl ge ∙ sym (get_or-append_right ys zs (length xs) i d (sym long) ge))
+    (cases_lt i (length xs))
 
-module _ {S : Type 0} (k : Kind) (laws : Laws k) (form : S → k.Form) (net : Network) (values : List S) (memory : List ℕ) (t : Turn) (v m : ℕ) (v_is : v ≡ min t.values (length values)) (m_is : m ≡ min t.bytes (length memory)) where
+-- so what a call leaves alone in a front part stays in the whole
+same_whole : {S : Type 0} (o : Option ℕ) (v : ℕ) (values after : List S) → length after ≡ length (take (v - 0) values) → SameBut o (take (v - 0) values) after → SameBut o values (after ++ drop (v - 0) values)
+same_whole None v values after long e = ap (λ l. l ++ drop (v - 0) values) e ∙ take-append-drop (v - 0) values
+same_whole (Some n) v values after long e = λ i d apart.
+    same_before after (take (v - 0) values) (drop (v - 0) values) i d long (e i d apart) ∙ ap (λ l. get_or l i d) (take-append-drop (v - 0) values)
+
+module _ {S : Type 0} (k : Kind) (laws : Laws k) (form : S → k.Form) (net : Table) (values : List S) (memory : List ℕ) (t : Turn) (v m : ℕ) (v_is : v ≡ min t.values (length values)) (m_is : m ≡ min t.bytes (length memory)) where
   abbrev st : State k
   st = state_of k form net values memory
 
@@ -64,7 +75,7 @@ module _ {S : Type 0} (k : Kind) (laws : Laws k) (form : S → k.Form) (net : Ne
       ∙ sym (ap (λ (c : Bool). cond c (call_leaves k st t.call) st) q)
 
   -- and leaves what the turn does
-  pub glued_leaves : (told : Told) (net' : Network) (values' : List S) (memory' : List ℕ) → told ≡ call_tells k part (length (take (v - 0) values)) (length (take (m - 0) memory)) t.call → state_of k form net' values' memory' ≡ call_after k part told t.call → state_of k form net' (values' ++ post_of 0 (v - 0) values) (memory' ++ post_of 0 (m - 0) memory) ≡ turn_leaves k st t
+  pub glued_leaves : (told : Told) (net' : Table) (values' : List S) (memory' : List ℕ) → told ≡ call_tells k part (length (take (v - 0) values)) (length (take (m - 0) memory)) t.call → state_of k form net' values' memory' ≡ call_after k part told t.call → state_of k form net' (values' ++ post_of 0 (v - 0) values) (memory' ++ post_of 0 (m - 0) memory) ≡ turn_leaves k st t
   glued_leaves told net' values' memory' e q =
       let z : v - 0 ≡ v = omega arith in
       let y : m - 0 ≡ m = omega arith in
@@ -78,13 +89,6 @@ module _ {S : Type 0} (k : Kind) (laws : Laws k) (form : S → k.Form) (net : Ne
       ∙ by_accepted told (turn ∙ sym here) (is_accepted told) refl
       ∙ ap (λ (w : Told). cond (is_accepted w) (call_leaves k st t.call) st) turn
 
-  -- so the turn answers what its call does, and leaves what it leaves; where there is no answer, all is as it was
-  pub turn_answers : {E : Type 0} (r : Result TurnAnswer E) → IfOk r (λ a. tells a ≡ call_tells k part (length (take (v - 0) values)) (length (take (m - 0) memory)) t.call) → IfOk r (λ a. tells a ≡ turn_tells k st t)
-  turn_answers (Ok a) e = glued_tells (tells a) e
-  turn_answers (Err x) e = tt
-
-  pub turn_after : {E : Type 0} (r : Result TurnAnswer E) (net' : Network) (values' : List S) (memory' : List ℕ) → IfOk r (λ a. tells a ≡ call_tells k part (length (take (v - 0) values)) (length (take (m - 0) memory)) t.call)
-      → MatchResult r (λ a. state_of k form net' values' memory' ≡ call_after k part (tells a) t.call) (λ _. (net' ≡ net) × (memory' ≡ take (m - 0) memory))
-      → MatchResult r (λ _. state_of k form net' (values' ++ post_of 0 (v - 0) values) (memory' ++ post_of 0 (m - 0) memory) ≡ turn_leaves k st t) (λ _. (net' ≡ net) × (memory' ++ post_of 0 (m - 0) memory ≡ memory))
-  turn_after (Ok a) net' values' memory' e q = glued_leaves (tells a) net' values' memory' e q
-  turn_after (Err x) net' values' memory' e q = (q.0, part_same memory memory' m q.1)
+  -- and writes no other value
+  pub glued_others : (told : Told) (values' : List S) → told ≡ call_tells k part (length (take (v - 0) values)) (length (take (m - 0) memory)) t.call → length values' ≡ length (take (v - 0) values) → SameBut (written_by told t.call) (take (v - 0) values) values' → SameBut (written_by (turn_tells k st t) t.call) values (values' ++ post_of 0 (v - 0) values)
+  glued_others told values' e long same = subst (λ (w : Told). SameBut (written_by w t.call) values (values' ++ drop (v - 0) values)) (glued_tells told e) (same_whole (written_by told t.call) v values values' long same)

@@ -12,11 +12,11 @@ use Rattle.histories.specs.Search.{filled, Sound}
 use Rattle.histories.specs.Folds.{read_as, gift_form, node_form, slot_form}
 use Rattle.histories.proofs.Folding.{gave_here, gave_else, gave_slot, sent_here, sent_else, delivered_here, delivered_else, dropped_else}
 use Rattle.network.specs.declared.fault.NetworkFault.{NetworkFault}
-use Rattle.network.specs.declared.fault.NetworkFault.TheVariants.{Brought, Overlong, NoNode, NoSlot, SlotFree, SlotFilled, Room}
 use Rattle.network.specs.declared.slot.Filled.{Filled}
-use Rattle.network.specs.declared.table.Network.{Network}
-use Rattle.network.specs.Calls.{unless, accepted, ready, slot_of, is_filled, slot_start, slot_frame, no_slot}
-use Rattle.diffusion.specs.Turns.{Told, done, bytes, refused, is_accepted, plainly, with_bytes, State, form_of, call_tells, turn_tells, fused, call_leaves, turn_leaves, Opened}
+use Rattle.network.specs.Tables.{Table}
+use Rattle.network.specs.Faults.{fault_of}
+use Rattle.network.specs.Calls.{unless, accepted, ready, opened_network, slot_of, is_filled, slot_start, slot_frame, no_slot}
+use Rattle.diffusion.specs.Turns.{Told, done, bytes, refused, refusal, is_accepted, plainly, with_bytes, State, form_of, call_tells, turn_tells, fused, call_leaves, turn_leaves}
 use Rattle.diffusion.specs.Owed.{of_decoding, call_owes, owes}
 use Rattle.diffusion.proofs.Lying.{length_placed, front_frame, frame_here, frame_else}
 
@@ -32,27 +32,27 @@ front_test : (a b c : ℕ) → c ≤ b → ltb (min a b) c ≡ ltb a c
 front_test a b c le = ⊎_elim (λ lt. lt-ltb (min a b) c (omega arith) ∙ sym (lt-ltb a c lt)) (λ ge. le-ltb (min a b) c (omega arith) ∙ sym (le-ltb a c ge)) (cases_lt a c)
 
 -- an accepted answer passed each test before it
-passed : (b : Bool) (e : NetworkFault) (rest : Told) → is_accepted (cond b (refused e) rest) ≡ true → (b ≡ false) × (is_accepted rest ≡ true)
-passed true e rest q = absurd (both_ways false refl q)
-passed false e rest q = (refl, q)
+passed : (b : Bool) (n : ℕ) (rest : Told) → is_accepted (cond b (refused n None) rest) ≡ true → (b ≡ false) × (is_accepted rest ≡ true)
+passed true n rest q = absurd (both_ways false refl q)
+passed false n rest q = (refl, q)
 
 -- and one that is given only where a test holds met it
-met : (b : Bool) (e : NetworkFault) (rest : Told) → is_accepted (cond b rest (refused e)) ≡ true → b ≡ true
-met true e rest q = refl
-met false e rest q = absurd (both_ways false refl q)
+met : (b : Bool) (n : ℕ) (rest : Told) → is_accepted (cond b rest (refused n None)) ≡ true → b ≡ true
+met true n rest q = refl
+met false n rest q = absurd (both_ways false refl q)
 
 -- what tells of a refusal tells of the tests in their order
-module _ {A : Type 0} (told : Result A NetworkFault → Told) (err : (e : NetworkFault) → told (Err e) ≡ refused e) where
-  tells_unless : (b : Bool) (e : NetworkFault) (rest : Result A NetworkFault) → told (unless b e rest) ≡ cond b (refused e) (told rest)
-  tells_unless true e rest = err e
-  tells_unless false e rest = refl
+module _ {A : Type 0} (told : Result A NetworkFault → Told) (err : (e : NetworkFault) → told (Err e) ≡ refusal e) where
+  tells_unless : (b : Bool) (n : ℕ) (rest : Result A NetworkFault) → told (unless b n rest) ≡ cond b (refusal (fault_of n)) (told rest)
+  tells_unless true n rest = err (fault_of n)
+  tells_unless false n rest = refl
 
-  tells_ready : (k : Kind) (net : Network) (v m : ℕ) (rest : Result A NetworkFault) → overlong k ≡ false → told (ready k net v m rest) ≡ cond (ltb v net.count || ltb m 65536) (refused Brought) (told rest)
+  tells_ready : (k : Kind) (net : Table) (v m : ℕ) (rest : Result A NetworkFault) → overlong k ≡ false → told (ready k net v m rest) ≡ cond (ltb v net.count || ltb m 65536) (refused 2 None) (told rest)
   tells_ready k net v m rest short =
-      tells_unless (ltb v net.count || ltb m 65536) Brought (unless (overlong k) Overlong rest)
-      ∙ ap (λ (r : Result A NetworkFault). cond (ltb v net.count || ltb m 65536) (refused Brought) (told r)) (cond-false (overlong k) (Err Overlong) rest short)
+      tells_unless (ltb v net.count || ltb m 65536) 2 (unless (overlong k) 3 rest)
+      ∙ ap (λ (r : Result A NetworkFault). cond (ltb v net.count || ltb m 65536) (refused 2 None) (told r)) (cond-false (overlong k) (Err (fault_of 3)) rest short)
 
-plainly_err : (e : NetworkFault) → plainly (Err e) ≡ refused e
+plainly_err : (e : NetworkFault) → plainly (Err e) ≡ refusal e
 plainly_err e = refl
 
 module _ (k : Kind) (nodes : ℕ) where
@@ -69,18 +69,18 @@ module _ (k : Kind) (nodes : ℕ) where
     -- a filled slot has the frame of what it carries
     pub lies : (s : ℕ) → s < 32 → filled h s ≡ true → slot_frame st.memory s (get_or st.net.slots s no_slot) ≡ k.encoding (slot_form k h s)
 
-  -- it holds at the start
-  pub holding_opened : (st : State k) → Opened k nodes st → Holding [] st
-  holding_opened st o =
-      let free : st.net.slots ≡ replicate 32 None = ap (λ (net : Network). net.slots) o.table in
+  -- it holds after OPEN
+  pub holding_opened : (st : State k) → overlong k ≡ false → nodes ≤ length st.forms → 65536 ≤ length st.memory → st.net ≡ opened_network nodes → take nodes st.forms ≡ replicate nodes k.none → Holding [] st
+  holding_opened st short values room opened empty =
+      let free : st.net.slots ≡ replicate 32 None = ap (λ (net : Table). net.slots) opened in
       record {
-        short = o.short;
-        values = o.values;
-        room = o.room;
-        count = ap (λ (net : Network). net.count) o.table;
+        short = short;
+        values = values;
+        room = room;
+        count = ap (λ (net : Table). net.count) opened;
         slots = ap length free ∙ length-replicate 32 no_slot;
         sound = tt;
-        nodes_hold = λ n lt. sym (get_or-take nodes st.forms n k.none lt) ∙ ap (λ (l : List k.Form). get_or l n k.none) o.empty ∙ get_or-replicate nodes n k.none k.none lt;
+        nodes_hold = λ n lt. sym (get_or-take nodes st.forms n k.none lt) ∙ ap (λ (l : List k.Form). get_or l n k.none) empty ∙ get_or-replicate nodes n k.none k.none lt;
         table = λ s lt. ap (λ (l : List (Option Filled)). is_filled (get_or l s no_slot)) free ∙ ap is_filled (get_or-replicate 32 s no_slot no_slot lt);
         lies = λ s lt e. absurd (both_ways false refl e);
       }
@@ -123,24 +123,24 @@ module _ (k : Kind) (laws : Laws k) (nodes : ℕ) (h : History) (st : State k) (
     node_test n = ap (λ (c : ℕ). leb c n) on.count
 
     -- the first test, and then what comes after
-    first_tells : {A : Type 0} (told : Result A NetworkFault → Told) → ((e : NetworkFault) → told (Err e) ≡ refused e) → (rest : Result A NetworkFault) (owed : Told)
-        → ((ltb values nodes || ltb memory 65536) ≡ false → told rest ≡ owed) → told (ready k st.net v m rest) ≡ cond (ltb values nodes || ltb memory 65536) (refused Brought) owed
+    first_tells : {A : Type 0} (told : Result A NetworkFault → Told) → ((e : NetworkFault) → told (Err e) ≡ refusal e) → (rest : Result A NetworkFault) (owed : Told)
+        → ((ltb values nodes || ltb memory 65536) ≡ false → told rest ≡ owed) → told (ready k st.net v m rest) ≡ cond (ltb values nodes || ltb memory 65536) (refused 2 None) owed
     first_tells told err rest owed same =
         tells_ready told err k st.net v m rest on.short
-        ∙ ap (λ (b : Bool). cond b (refused Brought) (told rest)) lacking
-        ∙ past_test (ltb values nodes || ltb memory 65536) (refused Brought) (told rest) owed same
+        ∙ ap (λ (b : Bool). cond b (refused 2 None) (told rest)) lacking
+        ∙ past_test (ltb values nodes || ltb memory 65536) (refused 2 None) (told rest) owed same
 
     -- the node's test, and then what comes after
-    node_tells : {A : Type 0} (told : Result A NetworkFault → Told) → ((e : NetworkFault) → told (Err e) ≡ refused e) → (n : ℕ) (rest : Result A NetworkFault) (owed : Told)
-        → (n < nodes → told rest ≡ owed) → told (unless (leb st.net.count n) NoNode rest) ≡ cond (leb nodes n) (refused NoNode) owed
+    node_tells : {A : Type 0} (told : Result A NetworkFault → Told) → ((e : NetworkFault) → told (Err e) ≡ refusal e) → (n : ℕ) (rest : Result A NetworkFault) (owed : Told)
+        → (n < nodes → told rest ≡ owed) → told (unless (leb st.net.count n) 4 rest) ≡ cond (leb nodes n) (refused 4 None) owed
     node_tells told err n rest owed same =
-        tells_unless told err (leb st.net.count n) NoNode rest
-        ∙ ap (λ (b : Bool). cond b (refused NoNode) (told rest)) (node_test n)
-        ∙ past_test (leb nodes n) (refused NoNode) (told rest) owed (λ e. same (leb-false nodes n e))
+        tells_unless told err (leb st.net.count n) 4 rest
+        ∙ ap (λ (b : Bool). cond b (refused 4 None) (told rest)) (node_test n)
+        ∙ past_test (leb nodes n) (refused 4 None) (told rest) owed (λ e. same (leb-false nodes n e))
 
     -- the slot's test, and then what comes after
-    slot_tells : (s : ℕ) (rest : Result (Unit {0}) NetworkFault) (owed : Told) → (s < 32 → plainly rest ≡ owed) → plainly (unless (leb 32 s) NoSlot rest) ≡ cond (leb 32 s) (refused NoSlot) owed
-    slot_tells s rest owed same = tells_unless plainly plainly_err (leb 32 s) NoSlot rest ∙ past_test (leb 32 s) (refused NoSlot) (plainly rest) owed (λ e. same (leb-false 32 s e))
+    slot_tells : (s : ℕ) (rest : Result (Unit {0}) NetworkFault) (owed : Told) → (s < 32 → plainly rest ≡ owed) → plainly (unless (leb 32 s) 5 rest) ≡ cond (leb 32 s) (refused 5 None) owed
+    slot_tells s rest owed same = tells_unless plainly plainly_err (leb 32 s) 5 rest ∙ past_test (leb 32 s) (refused 5 None) (plainly rest) owed (λ e. same (leb-false 32 s e))
 
     -- a frame from outside
     decoding_tells : (r : Result k.Form DecodeFault) → plainly (accepted k r) ≡ of_decoding k nodes r
@@ -157,26 +157,26 @@ module _ (k : Kind) (laws : Laws k) (nodes : ℕ) (h : History) (st : State k) (
         go false same = free
 
     -- every call tells what the history owes
-    pub call_tells_owes : (c : Call) → call_tells k st v m c ≡ cond (ltb values nodes || ltb memory 65536) (refused Brought) (call_owes k nodes h c)
+    pub call_tells_owes : (c : Call) → call_tells k st v m c ≡ cond (ltb values nodes || ltb memory 65536) (refused 2 None) (call_owes k nodes h c)
     call_tells_owes (Generate n r) = first_tells plainly plainly_err _ _ (λ e. node_tells plainly plainly_err n (Ok tt) done (λ lt. refl))
     call_tells_owes (Arrive n f) = first_tells plainly plainly_err _ _ (λ e. node_tells plainly plainly_err n (accepted k (k.decoding f.now)) _ (λ lt. decoding_tells (k.decoding f.now)))
     call_tells_owes (Send n s) =
         first_tells plainly plainly_err _ _
         (λ e. node_tells plainly plainly_err n _ _
-        (λ lt. slot_tells s (cond (is_filled (get_or st.net.slots s no_slot)) (Err SlotFilled) (Ok tt)) _ (λ ls. by_filled s ls (Err SlotFilled) (Ok tt) (refused SlotFilled) done (λ f. refl) refl)))
+        (λ lt. slot_tells s (cond (is_filled (get_or st.net.slots s no_slot)) (Err (fault_of 7)) (Ok tt)) _ (λ ls. by_filled s ls (Err (fault_of 7)) (Ok tt) (refused 7 None) done (λ f. refl) refl)))
     call_tells_owes (Deliver s n) =
         first_tells plainly plainly_err _ _
         (λ e. slot_tells s _ _
         (λ ls. node_tells plainly plainly_err n _ _
-        (λ lt. by_filled s ls (accepted k (k.decoding (slot_frame (take m st.memory) s (get_or st.net.slots s no_slot)))) (Err SlotFree) done (refused SlotFree)
+        (λ lt. by_filled s ls (accepted k (k.decoding (slot_frame (take m st.memory) s (get_or st.net.slots s no_slot)))) (Err (fault_of 6)) done (refused 6 None)
         (λ full. ap (λ (r : Result k.Form DecodeFault). plainly (accepted k r)) (front_reads m s (enough e) (omega arith) ls full)) refl)))
-    call_tells_owes (Drop s) = first_tells plainly plainly_err _ _ (λ e. slot_tells s _ _ (λ ls. by_filled s ls (Ok tt) (Err SlotFree) done (refused SlotFree) (λ f. refl) refl))
+    call_tells_owes (Drop s) = first_tells plainly plainly_err _ _ (λ e. slot_tells s _ _ (λ ls. by_filled s ls (Ok tt) (Err (fault_of 6)) done (refused 6 None) (λ f. refl) refl))
     call_tells_owes (Read n room) =
         let bs = k.encoding (form_of k st n) in
         first_tells (with_bytes bs) (λ e. refl) _ _
-        (λ e. node_tells (with_bytes bs) (λ e. refl) n (unless (ltb room (length bs)) Room (Ok (length bs))) _
-        (λ lt. tells_unless (with_bytes bs) (λ e. refl) (ltb room (length bs)) Room (Ok (length bs))
-        ∙ ap (λ (x : k.Form). cond (ltb room (length (k.encoding x))) (refused Room) (bytes (k.encoding x))) (on.nodes_hold n lt)))
+        (λ e. node_tells (with_bytes bs) (λ e. refl) n (unless (ltb room (length bs)) 8 (Ok (length bs))) _
+        (λ lt. tells_unless (with_bytes bs) (λ e. refl) (ltb room (length bs)) 8 (Ok (length bs))
+        ∙ ap (λ (x : k.Form). cond (ltb room (length (k.encoding x))) (refused 8 None) (bytes (k.encoding x))) (on.nodes_hold n lt)))
 
   -- a turn tells what the history owes
   pub tells_owes : (t : Turn) → turn_tells k st t ≡ owes k nodes h t
@@ -289,11 +289,11 @@ module _ (k : Kind) (laws : Laws k) (nodes : ℕ) (h : History) (st : State k) (
       }
 
   -- a node, and a slot, that passed the test
-  node_passed : (n : ℕ) (rest : Told) → is_accepted (cond (leb nodes n) (refused NoNode) rest) ≡ true → (n < nodes) × (is_accepted rest ≡ true)
-  node_passed n rest q = let p = passed (leb nodes n) NoNode rest q in (leb-false nodes n p.0, p.1)
+  node_passed : (n : ℕ) (rest : Told) → is_accepted (cond (leb nodes n) (refused 4 None) rest) ≡ true → (n < nodes) × (is_accepted rest ≡ true)
+  node_passed n rest q = let p = passed (leb nodes n) 4 rest q in (leb-false nodes n p.0, p.1)
 
-  slot_passed : (s : ℕ) (rest : Told) → is_accepted (cond (leb 32 s) (refused NoSlot) rest) ≡ true → (s < 32) × (is_accepted rest ≡ true)
-  slot_passed s rest q = let p = passed (leb 32 s) NoSlot rest q in (leb-false 32 s p.0, p.1)
+  slot_passed : (s : ℕ) (rest : Told) → is_accepted (cond (leb 32 s) (refused 5 None) rest) ≡ true → (s < 32) × (is_accepted rest ≡ true)
+  slot_passed s rest q = let p = passed (leb 32 s) 5 rest q in (leb-false 32 s p.0, p.1)
 
   -- an accepted call
   call_holds : (c : Call) → is_accepted (call_owes k nodes h c) ≡ true → Holding k nodes (deed c true ∷ h) (call_leaves k st c)
@@ -306,16 +306,16 @@ module _ (k : Kind) (laws : Laws k) (nodes : ℕ) (h : History) (st : State k) (
       fused_holds (gave n g) n (gift_form k g) a.0 on.sound (gave_here k h n g) (λ i apart. gave_else k h n i g apart) (λ s. refl) (λ s. gave_slot k h n g s)
   call_holds (Send n s) q =
       let a = node_passed n _ q in
-      let b = slot_passed s (cond (filled h s) (refused SlotFilled) done) a.1 in
-      let c = passed (filled h s) SlotFilled done b.1 in
+      let b = slot_passed s (cond (filled h s) (refused 7 None) done) a.1 in
+      let c = passed (filled h s) 7 done b.1 in
       sent_holds n s a.0 b.0 c.0
   call_holds (Deliver s n) q =
       let a = slot_passed s _ q in
-      let b = node_passed n (cond (filled h s) done (refused SlotFree)) a.1 in
-      let full = met (filled h s) SlotFree done b.1 in
+      let b = node_passed n (cond (filled h s) done (refused 6 None)) a.1 in
+      let full = met (filled h s) 6 done b.1 in
       let made = fused_holds (delivered s n) n (slot_form k h s) b.0 on.sound (delivered_here k laws h s n) (λ i apart. delivered_else k h s n i apart) (λ r. refl) (λ r. refl) in
       subst (λ (r : Result k.Form DecodeFault). Holding k nodes (delivered s n ∷ h) (fused k st n (read_as k r))) (sym (slot_reads s a.0 full)) made
-  call_holds (Drop s) q = let a = slot_passed s (cond (filled h s) done (refused SlotFree)) q in dropped_holds s a.0
+  call_holds (Drop s) q = let a = slot_passed s (cond (filled h s) done (refused 6 None)) q in dropped_holds s a.0
   call_holds (Read n room) q = still_holds
 
   -- it holds after every turn
@@ -323,5 +323,5 @@ module _ (k : Kind) (laws : Laws k) (nodes : ℕ) (h : History) (st : State k) (
   turn_holds t = go (is_accepted (turn_tells k st t)) refl
     where
       go : (b : Bool) → is_accepted (turn_tells k st t) ≡ b → Holding k nodes (deed t.call b ∷ h) (cond b (call_leaves k st t.call) st)
-      go true q = call_holds t.call (passed (ltb t.values nodes || ltb t.bytes 65536) Brought (call_owes k nodes h t.call) (ap is_accepted (sym (tells_owes t)) ∙ q)).1
+      go true q = call_holds t.call (passed (ltb t.values nodes || ltb t.bytes 65536) 2 (call_owes k nodes h t.call) (ap is_accepted (sym (tells_owes t)) ∙ q)).1
       go false q = still_holds

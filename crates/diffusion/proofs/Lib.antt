@@ -1,6 +1,7 @@
 pub mod Lying
 pub mod Fronts
 pub mod Gluing
-pub mod Running
 pub mod Keeping
+pub mod Running
+pub mod Outside
 pub mod Promising

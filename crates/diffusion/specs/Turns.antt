@@ -1,47 +1,49 @@
--- What a turn does, by the contracts of the calls; and whole runs of turns.
-use Rattle.std.specs.Prelude.{◌≡◌, ℕ, ◌≤◌, min, Bool, true, false, cond, List, [], ◌∷◌, ◌++◌, map, length, take, replicate, None, Some, Option, Ok, Err, Result, Vec, slice_index_or, slice_set}
-use Rattle.std.specs.Global.{Global}
-use Rattle.synopsis.specs.Kind.{Kind, overlong}
+-- What a turn tells and leaves, by the contracts of the calls.
+use Rattle.std.specs.Prelude.{◌≡◌, ◌≢◌, ℕ, min, Bool, true, false, cond, List, map, length, take, None, Some, Option, Ok, Err, Result, slice_index_or, slice_set}
+use Rattle.synopsis.specs.Kind.{Kind}
 use Rattle.histories.specs.declared.Call.{Call}
 use Rattle.histories.specs.declared.Call.TheVariants.{Generate, Arrive, Send, Deliver, Drop, Read}
 use Rattle.histories.specs.declared.Turn.{Turn}
-use Rattle.histories.specs.Deeds.{deed, History}
 use Rattle.histories.specs.Folds.{read_as}
 use Rattle.network.specs.declared.fault.NetworkFault.{NetworkFault}
-use Rattle.network.specs.declared.table.Network.{Network}
-use Rattle.network.specs.Calls.{generate_answer, arrive_answer, send_answer, deliver_answer, drop_answer, read_answer, slot_start, slot_frame, no_slot, placed, slot_of, switched, opened_network}
+use Rattle.network.specs.Faults.{fault_number, fault_at}
+use Rattle.network.specs.Tables.{Table}
+use Rattle.network.specs.Calls.{generate_answer, arrive_answer, send_answer, deliver_answer, drop_answer, read_answer, slot_start, slot_frame, no_slot, placed, slot_of, switched}
+use Rattle.diffusion.specs.declared.answer.Answer.{Answer}
+use Rattle.diffusion.specs.declared.answer.Answer.TheVariants as answer
 
--- what an answer tells
+-- what an answer tells: that the call was done, the bytes that a READ gave, or the number of the refusal, and of bytes that
+-- are no frame also the place and the kind
 pub data Told : Type 0 where
   done : Told
   bytes : List ℕ → Told
-  refused : NetworkFault → Told
+  refused : (number : ℕ) → (at : Option (ℕ × ℕ)) → Told
 
 abbrev pub is_accepted : Told → Bool
 is_accepted done = true
 is_accepted (bytes bs) = true
-is_accepted (refused e) = false
+is_accepted (refused number at) = false
+
+abbrev pub refusal : NetworkFault → Told
+refusal e = refused (fault_number e) (fault_at e)
 
 -- an answer as the code has it
-abbrev pub TurnAnswer : Type 0
-TurnAnswer = Result (Option (Vec ℕ Global)) NetworkFault
-
-abbrev pub tells : TurnAnswer → Told
-tells (Ok None) = done
-tells (Ok (Some v)) = bytes v.items
-tells (Err e) = refused e
+abbrev pub tells : Answer → Told
+tells answer.Done = done
+tells (answer.Bytes bs) = bytes bs.now
+tells (answer.Refused e) = refusal e
 
 abbrev pub plainly : Result (Unit {0}) NetworkFault → Told
 plainly (Ok u) = done
-plainly (Err e) = refused e
+plainly (Err e) = refusal e
 
 abbrev pub with_bytes : List ℕ → Result ℕ NetworkFault → Told
 with_bytes bs (Ok n) = bytes bs
-with_bytes bs (Err e) = refused e
+with_bytes bs (Err e) = refusal e
 
--- the network, the forms of all values that the caller has, the nodes first, and the memory
+-- the table of the network, the forms of all values that the caller has, the nodes first, and the memory
 pub record State (k : Kind) : Type 0 where
-  pub net : Network
+  pub net : Table
   pub forms : List k.Form
   pub memory : List ℕ
 
@@ -84,33 +86,32 @@ module _ (k : Kind) where
   abbrev pub turn_leaves : State k → Turn → State k
   turn_leaves st t = cond (is_accepted (turn_tells st t)) (call_leaves st t.call) st
 
-  -- a state just after an accepted OPEN of so many nodes, whatever values and memory held before
-  pub record Opened (nodes : ℕ) (st : State k) : Type 0 where
-    pub short : overlong k ≡ false
-    pub some : 1 ≤ nodes
-    pub few : nodes ≤ 16
-    pub values : nodes ≤ length st.forms
-    pub room : 65536 ≤ length st.memory
-    pub table : st.net ≡ opened_network nodes
-    pub empty : take nodes st.forms ≡ replicate nodes k.none
-
-  -- a run of turns on a network of so many nodes: the turns, what each told, the history, read off the turns'
-  -- arguments and which were accepted, and the state after them
-  pub data Ran (nodes : ℕ) : List Turn → List Told → History → State k → Type 0 where
-    opened : {st : State k} → Opened nodes st → Ran nodes [] [] [] st
-    then : {ts : List Turn} {ws : List Told} {h : History} {st : State k} → Ran nodes ts ws h st → (t : Turn) → Ran nodes (ts ++ t ∷ []) (ws ++ turn_tells st t ∷ []) (deed t.call (is_accepted (turn_tells st t)) ∷ h) (turn_leaves st t)
-
 -- the state that a network, values and memory are
-abbrev pub state_of : {S : Type 0} (k : Kind) → (S → k.Form) → Network → List S → List ℕ → State k
+abbrev pub state_of : {S : Type 0} (k : Kind) → (S → k.Form) → Table → List S → List ℕ → State k
 state_of k form net values memory = record { net = net; forms = map form values; memory = memory }
 
 -- what a call, brought exactly these values and this memory, leaves
 abbrev pub call_after : (k : Kind) → State k → Told → Call → State k
 call_after k st told call = cond (is_accepted told) (call_leaves k st call) st
 
--- what a list of turns came to: the first of them were made, whole, and their answers are these; all of them, if so said
-pub record Made (k : Kind) (nodes : ℕ) (turns : List Turn) (answers : List Told) (whole : Bool) (st : State k) : Type 0 where
-  pub few : length answers ≤ length turns
-  pub all : whole ≡ true → length answers ≡ length turns
-  pub history : History
-  pub ran : Ran k nodes (take (length answers) turns) answers history st
+-- the node whose value a call may write: that of an accepted GENERATE, ARRIVE or DELIVER
+abbrev pub written_node : Call → Option ℕ
+written_node (Generate n r) = Some n
+written_node (Arrive n frame) = Some n
+written_node (Send n s) = None
+written_node (Deliver s n) = Some n
+written_node (Drop s) = None
+written_node (Read n room) = None
+
+-- none where the call is refused
+abbrev pub if_accepted : Bool → Option ℕ → Option ℕ
+if_accepted true node = node
+if_accepted false node = None
+
+abbrev pub written_by : Told → Call → Option ℕ
+written_by told call = if_accepted (is_accepted told) (written_node call)
+
+-- the very same values, or all but that of one node
+abbrev pub SameBut : {S : Type 0} → Option ℕ → (before after : List S) → Type 0
+SameBut None before after = after ≡ before
+SameBut {S} (Some n) before after = (i : ℕ) (d : S) → (i ≢ n) → slice_index_or after i d ≡ slice_index_or before i d

@@ -1,42 +1,37 @@
-ghost use Rattle.std.specs.Prelude.{◌≡◌, Some};
-ghost use Rattle.diffusion.specs.Faults.{run_fault_text, of_network};
+ghost use Rattle.std.specs.Prelude.{◌≡◌};
+ghost use Rattle.diffusion.specs.Runs.{of_network};
+ghost use Rattle.diffusion.specs.Faults.{run_fault_text};
 
-use crate::answer::Answer;
 use network::fault::NetworkFault;
 use std::error::Error;
 use std::fmt;
 
-// Why not all turns of a list were made.
-#[derive(Debug, Drop)]
-pub enum RunFault {
-    // OPEN was refused, and nothing was done
+/// Why not all turns of a list were made.
+#[derive(Clone, Copy, PartialEq, Eq, Debug, Drop)]
+pub enum RunFault<E> {
+    /// OPEN was refused, and nothing was done
     Refused(NetworkFault),
-    // there was no memory for an answer: its turn and those after it were not made, and these are the answers of those
-    // before it
-    Memory(Vec<Answer>),
+    /// the listener would hear no more
+    Stopped(E),
 }
 
-// By hand: of the text that a derive of `thiserror` writes no contract says what it is.
-impl fmt::Display for RunFault {
-    ghost output = { λ e. Some (run_fault_text e) };
+impl<E> From<NetworkFault> for RunFault<E> {
+    ghost from_gives = { λ e r. r ≡ of_network e };
+
+    fn from(e: NetworkFault) -> RunFault<E> {
+        RunFault::Refused(e)
+    }
+}
+
+impl<E: fmt::Display> fmt::Display for RunFault<E> {
+    ghost output = { run_fault_text E.output };
 
     fn fmt<W: fmt::Write>(&self, f: &mut fmt::Formatter<W>) -> fmt::Result {
         match self {
-            RunFault::Refused(fault) => write!(f, "{fault}"),
-            RunFault::Memory(answers) => {
-                let made = answers.len();
-                write!(f, "out of memory after {made} turns")
-            }
+            RunFault::Refused(fault) => fault.fmt(f),
+            RunFault::Stopped(error) => error.fmt(f),
         }
     }
 }
 
-impl Error for RunFault {}
-
-impl From<NetworkFault> for RunFault {
-    ghost from_gives = { λ e r. r ≡ of_network e };
-
-    fn from(e: NetworkFault) -> RunFault {
-        RunFault::Refused(e)
-    }
-}
+impl<E: Error> Error for RunFault<E> {}

@@ -2,7 +2,9 @@
 #![tactic(auto)]
 
 pub mod answer;
+pub mod answers;
 pub mod fault;
+pub mod listener;
 pub mod run;
 pub mod turn;
 pub mod values;

@@ -1,8 +1,9 @@
 -- What turns did: histories, read off the turns' arguments and which of them were accepted.
-use Rattle.std.specs.Prelude.{ℕ, Bool, true, false, List}
+use Rattle.std.specs.Prelude.{ℕ, Bool, true, false, List, [], ◌∷◌}
 use Rattle.readings.specs.declared.Reading.{Reading}
 use Rattle.histories.specs.declared.Call.{Call}
 use Rattle.histories.specs.declared.Call.TheVariants.{Generate, Arrive, Send, Deliver, Drop, Read}
+use Rattle.histories.specs.declared.Turn.{Turn}
 
 -- what a contribution brings: a reading, or the bytes of a frame from outside
 pub data Gift : Type 0 where
@@ -34,3 +35,9 @@ deed_of (Read n room) = nothing
 abbrev pub deed : Call → Bool → Deed
 deed call true = deed_of call
 deed call false = nothing
+
+-- the history after more turns, from their arguments and which of them were accepted
+abbrev pub history_after : History → List Turn → List Bool → History
+history_after h [] accepted = h
+history_after h (t ∷ ts) [] = h
+history_after h (t ∷ ts) (a ∷ accepted) = history_after (deed t.call a ∷ h) ts accepted

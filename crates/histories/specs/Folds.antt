@@ -33,6 +33,25 @@ module _ (k : Kind) where
   abbrev pub slot_form : History → ℕ → k.Form
   slot_form h s = fold_over (carries h s) h
 
+-- x is y joined with one form more where a path is there, and y itself where none is
+abbrev pub JoinedWhere : {F : Type 0} → (path : Type 0) (x joined y : F) → Type 0
+JoinedWhere path x joined y = (path × (x ≡ joined)) ⊎ ((path → ⊥) × (x ≡ y))
+
+module _ (k : Kind) (h : History) (n : ℕ) where
+  -- x is the fold, from the empty form and in turn order, over exactly those contributions of the oldest turns of h that
+  -- have a delivered path to node n
+  abbrev pub IsFoldOver : History → k.Form → Type 0
+  IsFoldOver [] x = x ≡ k.none
+  IsFoldOver (gave m g ∷ oldest) x = (y : k.Form) × IsFoldOver oldest y × JoinedWhere (Reaches h (suc (length oldest)) n) x (k.join y (gift_form k g)) y
+  IsFoldOver (sent m r ∷ oldest) x = IsFoldOver oldest x
+  IsFoldOver (delivered r m ∷ oldest) x = IsFoldOver oldest x
+  IsFoldOver (dropped r ∷ oldest) x = IsFoldOver oldest x
+  IsFoldOver (nothing ∷ oldest) x = IsFoldOver oldest x
+
+  -- x is the fold, from the empty form and in turn order, over exactly the contributions with a delivered path to node n
+  abbrev pub IsFold : k.Form → Type 0
+  IsFold x = IsFoldOver h x
+
 -- forms joined two at a time, in any order and bracketing
 pub data Tree (A : Type 0) : Type 0 where
   leaf : A → Tree A

@@ -1,12 +1,13 @@
 -- Refusals one after another, and values of which one was fused.
-use Rattle.std.proofs.Common.{◌≡◌, ℕ, ◌+◌, ◌-◌, ◌<◌, ◌≤◌, Bool, true, false, List, ◌++◌, map, length, get_or, take, drop, set, Ok, Result, sym, refl, ap, ◌∙◌, arith}
+use Rattle.std.proofs.Common.{◌≡◌, ℕ, ◌+◌, ◌-◌, ◌<◌, ◌≤◌, Bool, true, false, List, ◌++◌, map, length, get_or, take, drop, set, replicate, subst, Ok, Result, sym, refl, ap, ◌∙◌, arith}
 use borrow.Rule.Slice.PartMut.{put_mid}
-use Rattle.std.proofs.lemmas.List.{length-set, get_or-set_other, get_or-map, map-set, drop-drop, drop-append-le, take-append-drop, length-take, length-drop, append_assoc}
+use Rattle.std.proofs.lemmas.List.{length-replicate, get_or-replicate, length-set, get_or-set_other, get_or-map, map-set, drop-drop, drop-append-le, take-append-drop, length-take, length-drop, append_assoc}
 use Rattle.network.specs.declared.fault.NetworkFault.{NetworkFault}
-use Rattle.network.specs.Calls.{unless, placed, Fused}
+use Rattle.network.specs.Tables.{FitsSlot, Keeps}
+use Rattle.network.specs.Calls.{unless, placed, no_slot, Fused}
 
 -- an accepted answer met no refusal
-pub not_refused : (b : Bool) (e : NetworkFault) (rest : Result (Unit {0}) NetworkFault) → Ok tt ≡ unless b e rest → (b ≡ false) × (Ok tt ≡ rest)
+pub not_refused : (b : Bool) (e : ℕ) (rest : Result (Unit {0}) NetworkFault) → Ok tt ≡ unless b e rest → (b ≡ false) × (Ok tt ≡ rest)
 not_refused true e rest q = let z : ◌≡◌ {A = ℕ} 0 1 = cc in absurd (omega arith)
 not_refused false e rest q = (refl, q)
 
@@ -34,3 +35,10 @@ placed_is memory frame at room k within fits e =
 -- the form of one of the values
 pub form_at : {S F : Type 0} (form : S → F) (none : F) (values : List S) (node : ℕ) (old : S) → node < length values → old ≡ get_or values node old → form old ≡ get_or (map form values) node none
 form_at form none values node old lt is = sym (get_or-map form values node old none lt ∙ ap form (sym is))
+
+-- a table whose slots are all free
+pub free_keeps : (count : ℕ) → count ≤ 16 → Keeps count (replicate 32 no_slot)
+free_keeps count few = record {
+  few = few;
+  fit = λ i d lt. subst FitsSlot (sym (get_or-replicate 32 i no_slot d (let n = length-replicate 32 no_slot in omega arith))) tt;
+}

@@ -3,20 +3,13 @@ use Rattle.std.specs.Prelude.{◌≡◌, ℕ, ◌+◌, ◌*◌, min, Bool, true,
 use Rattle.synopsis.specs.declared.fault.DecodeFault.{DecodeFault}
 use Rattle.synopsis.specs.Kind.{Kind, overlong}
 use Rattle.network.specs.declared.fault.NetworkFault.{NetworkFault}
-use Rattle.network.specs.declared.fault.NetworkFault.TheVariants.{NodeCount, Brought, Overlong, NoNode, NoSlot, SlotFree, SlotFilled, Room, Synopsis}
 use Rattle.network.specs.declared.slot.Filled.{Filled}
-use Rattle.network.specs.declared.table.Network.{Network}
+use Rattle.network.specs.Faults.{fault_of, of_synopsis}
+use Rattle.network.specs.Tables.{Table, most_nodes, slot_count, slot_bytes, memory_bytes}
 
--- the bytes of a slot, and of all 32
-abbrev pub slot_bytes : ℕ
-slot_bytes = 2048
-
-abbrev pub memory_bytes : ℕ
-memory_bytes = 65536
-
--- refuses with a fault where the test says so, and goes on where not
-abbrev pub unless : {A : Type 0} → Bool → NetworkFault → Result A NetworkFault → Result A NetworkFault
-unless refused fault rest = cond refused (Err fault) rest
+-- refuses with a number where the test says so, and goes on where not
+abbrev pub unless : {A : Type 0} → Bool → ℕ → Result A NetworkFault → Result A NetworkFault
+unless refused number rest = cond refused (Err (fault_of number)) rest
 
 -- where slot s begins
 abbrev pub slot_start : ℕ → ℕ
@@ -50,24 +43,24 @@ module _ (k : Kind) where
   -- what a form is joined with, by what bytes are read as
   abbrev pub accepted : Result k.Form DecodeFault → Result (Unit {0}) NetworkFault
   accepted (Ok x) = Ok tt
-  accepted (Err e) = Err (Synopsis e)
+  accepted (Err e) = Err (of_synopsis e)
 
   -- how many nodes there are or are to be, and how many values and bytes are brought: what every call refuses before it
   -- looks at its node and slot
   abbrev pub served : {A : Type 0} → ℕ → ℕ → ℕ → Result A NetworkFault → Result A NetworkFault
-  served nodes values bytes rest = unless (nat_lt values nodes || nat_lt bytes memory_bytes) Brought (unless (overlong k) Overlong rest)
+  served nodes values bytes rest = unless (nat_lt values nodes || nat_lt bytes memory_bytes) 2 (unless (overlong k) 3 rest)
 
   -- a network, how many values and how many bytes it is brought
-  module _ (net : Network) (values bytes : ℕ) where
+  module _ (net : Table) (values bytes : ℕ) where
     -- what every call but OPEN refuses first
     abbrev pub ready : {A : Type 0} → Result A NetworkFault → Result A NetworkFault
     ready rest = served net.count values bytes rest
 
     abbrev pub no_node : {A : Type 0} → ℕ → Result A NetworkFault → Result A NetworkFault
-    no_node node rest = unless (nat_le net.count node) NoNode rest
+    no_node node rest = unless (nat_le net.count node) 4 rest
 
     abbrev pub beyond : {A : Type 0} → ℕ → Result A NetworkFault → Result A NetworkFault
-    beyond s rest = unless (nat_le 32 s) NoSlot rest
+    beyond s rest = unless (nat_le slot_count s) 5 rest
 
     abbrev pub generate_answer : ℕ → Result (Unit {0}) NetworkFault
     generate_answer node = ready (no_node node (Ok tt))
@@ -76,34 +69,34 @@ module _ (k : Kind) where
     arrive_answer node frame = ready (no_node node (accepted (k.decoding frame)))
 
     abbrev pub send_answer : ℕ → ℕ → Result (Unit {0}) NetworkFault
-    send_answer node s = ready (no_node node (beyond s (cond (is_filled (slice_index_or net.slots s no_slot)) (Err SlotFilled) (Ok tt))))
+    send_answer node s = ready (no_node node (beyond s (unless (is_filled (slice_index_or net.slots s no_slot)) 7 (Ok tt))))
 
     abbrev pub deliver_answer : List ℕ → ℕ → ℕ → Result (Unit {0}) NetworkFault
     deliver_answer memory s node =
-        ready (beyond s (no_node node (cond (is_filled (slice_index_or net.slots s no_slot)) (accepted (k.decoding (slot_frame memory s (slice_index_or net.slots s no_slot)))) (Err SlotFree))))
+        ready (beyond s (no_node node (cond (is_filled (slice_index_or net.slots s no_slot)) (accepted (k.decoding (slot_frame memory s (slice_index_or net.slots s no_slot)))) (Err (fault_of 6)))))
 
     abbrev pub drop_answer : ℕ → Result (Unit {0}) NetworkFault
-    drop_answer s = ready (beyond s (cond (is_filled (slice_index_or net.slots s no_slot)) (Ok tt) (Err SlotFree)))
+    drop_answer s = ready (beyond s (cond (is_filled (slice_index_or net.slots s no_slot)) (Ok tt) (Err (fault_of 6))))
 
     -- READ of a form into room for so many bytes
     abbrev pub read_answer : ℕ → k.Form → ℕ → Result ℕ NetworkFault
-    read_answer node x room = ready (no_node node (unless (nat_lt room (length (k.encoding x))) Room (Ok (length (k.encoding x)))))
+    read_answer node x room = ready (no_node node (unless (nat_lt room (length (k.encoding x))) 8 (Ok (length (k.encoding x)))))
 
   -- OPEN
   abbrev pub open_answer : ℕ → ℕ → ℕ → Result (Unit {0}) NetworkFault
   open_answer nodes values bytes =
-      unless (nat_lt nodes 1 || nat_lt 16 nodes) NodeCount (served nodes values bytes (Ok tt))
+      unless (nat_lt nodes 1 || nat_lt most_nodes nodes) 1 (served nodes values bytes (Ok tt))
 
 -- the memory with a frame at a place
 abbrev pub placed : List ℕ → ℕ → List ℕ → List ℕ
 placed memory at frame = take at memory ++ (frame ++ drop (at + length frame) memory)
 
 -- a network that was just opened
-abbrev pub opened_network : ℕ → Network
-opened_network nodes = record { count = nodes; slots = replicate 32 None }
+abbrev pub opened_network : ℕ → Table
+opened_network nodes = record { count = nodes; slots = replicate slot_count None }
 
 -- with one entry of its table switched
-abbrev pub switched : Network → ℕ → Option Filled → Network
+abbrev pub switched : Table → ℕ → Option Filled → Table
 switched net s entry = record { count = net.count; slots = slice_set net.slots s entry }
 
 -- one node's value has this form now, the others are as they were

@@ -1,28 +1,25 @@
 ghost use Rattle.std.specs.Prelude.{◌≡◌, ◌<◌, ◌≤◌, false, ◌++◌, length, drop, None, Ok, IfOk, MatchResult, nat_le, slice_index_or};
 ghost use Rattle.network.specs.Calls.{opened_network, slot_of, switched, value_form, value_frame, placed, slot_start, slot_frame, no_slot, unless, served, generate_answer, arrive_answer, send_answer, deliver_answer, drop_answer, read_answer, open_answer, Fused, Joined, Emptied};
-ghost use Rattle.network.specs.declared.fault.NetworkFault.TheVariants.{NoNode, NoSlot};
 ghost use Rattle.synopsis.specs.Kind.{overlong};
 
 use crate::fault::NetworkFault;
 use crate::slot::Filled;
-use crate::table::{Network, SLOTS};
+use crate::table::{NODES, Network, SLOTS};
 use readings::Reading;
 use synopsis::kind::{LONGEST, Synopsis};
 
-// How many nodes a network has at most.
-const NODES: usize = 16;
-
-// How many bytes a slot has, room for any frame, and all of them together.
+/// How many bytes a slot has, room for any frame.
 pub const SLOT: usize = LONGEST;
 
+/// How many bytes of memory a network asks for: slot s begins at byte `SLOT * s`.
 pub const MEMORY: usize = SLOTS * SLOT;
 
 // What every call refuses before it looks at its node and slot, where there are or are to be so many nodes.
-fn is_served<S: Synopsis>(nodes: usize, values: &[S], memory: &[u8]) -> Result<(), NetworkFault>
+fn check_lent<S: Synopsis>(nodes: usize, values: &[S], memory: &[u8]) -> Result<(), NetworkFault>
     ensures { result ≡ served S.Synopsis.kind nodes (length values.now) (length memory.now) (Ok tt) }
 {
     if values.len() < nodes || memory.len() < MEMORY {
-        return Err(NetworkFault::Brought);
+        return Err(NetworkFault::TooLittleLent);
     }
     if S::is_overlong() {
         return Err(NetworkFault::Overlong);
@@ -31,9 +28,9 @@ fn is_served<S: Synopsis>(nodes: usize, values: &[S], memory: &[u8]) -> Result<(
 }
 
 // That there is such a slot.
-fn is_slot(slot: usize) -> Result<(), NetworkFault>
-    ensures answer { result ≡ unless (nat_le 32 slot) NoSlot (Ok tt) }
-    ensures within { IfOk result (λ _. slot < 32) }
+fn check_slot(slot: usize) -> Result<(), NetworkFault>
+    ensures answer { result ≡ unless (nat_le SLOTS slot) 5 (Ok tt) }
+    ensures within { IfOk result (λ _. slot < SLOTS) }
 {
     if slot >= SLOTS {
         return Err(NetworkFault::NoSlot);
@@ -62,8 +59,8 @@ fn empty_front<S: Synopsis>(values: &mut [S], nodes: usize)
 // Encodes one of the values into a slot's bytes.
 fn encode_at<S: Synopsis>(values: &[S], node: usize, memory: &mut [u8], slot: usize) -> usize
     requires node_within { node < length values.now }
-    requires slot_within { slot < 32 }
-    requires room { 65536 ≤ length memory.old }
+    requires slot_within { slot < SLOTS }
+    requires room { MEMORY ≤ length memory.old }
     requires short { overlong S.Synopsis.kind ≡ false }
     ensures answer { result ≡ length (value_frame S.Synopsis.kind S.Synopsis.form values.now node) }
     ensures bytes { memory.new ≡ placed memory.old (slot_start slot) (value_frame S.Synopsis.kind S.Synopsis.form values.now node) }
@@ -72,23 +69,22 @@ fn encode_at<S: Synopsis>(values: &[S], node: usize, memory: &mut [u8], slot: us
     values[node].encode(&mut memory[at..at + SLOT]).unwrap()
 }
 
-// The rule of the table: an entry is lent, and switched in place, here to filled and below to free.
+// Switches an entry of the table, lent for it, to filled.
 fn fill(entry: &mut Option<Filled>, sender: usize, length: usize)
     ensures { entry.new ≡ slot_of sender length }
 {
     *entry = Some(Filled { sender, length });
 }
 
+// Switches it to free.
 fn release(entry: &mut Option<Filled>)
     ensures { entry.new ≡ None }
 {
     *entry = None;
 }
 
-// The calls take the values and the memory one by one, since each says by `&` or `&mut` which of the two it leaves
-// alone; a struct of both would lose that.
 impl Network {
-    // A network with no nodes: it serves only OPEN.
+    /// A network with no nodes: it serves only OPEN.
     pub fn new() -> Network
         ensures { result ≡ opened_network 0 }
     {
@@ -99,8 +95,8 @@ impl Network {
     }
 
     // That there is such a node.
-    fn is_node(&self, node: usize) -> Result<(), NetworkFault>
-        ensures answer { result ≡ unless (nat_le self.now.count node) NoNode (Ok tt) }
+    fn check_node(&self, node: usize) -> Result<(), NetworkFault>
+        ensures answer { result ≡ unless (nat_le self.now.count node) 4 (Ok tt) }
         ensures within { IfOk result (λ _. node < self.now.count) }
     {
         if node >= self.count {
@@ -109,7 +105,7 @@ impl Network {
         Ok(())
     }
 
-    // GENERATE: a reading at a node.
+    /// GENERATE: a reading at a node.
     pub fn generate<S: Synopsis>(
         &self,
         values: &mut [S],
@@ -120,13 +116,13 @@ impl Network {
         ensures answer { result ≡ generate_answer S.Synopsis.kind self.now (length values.old) (length memory.now) node }
         ensures after { MatchResult result (λ _. Fused S.Synopsis.form values.old values.new node (S.Synopsis.kind.join (value_form S.Synopsis.kind S.Synopsis.form values.old node) (S.Synopsis.kind.single reading))) (λ _. values.new ≡ values.old) }
     {
-        is_served(self.count, values, memory)?;
-        self.is_node(node)?;
+        check_lent(self.count, values, memory)?;
+        self.check_node(node)?;
         fuse_at(values, node, &S::make(reading));
         Ok(())
     }
 
-    // ARRIVE: bytes from outside at a node.
+    /// ARRIVE: bytes from outside at a node.
     pub fn arrive<S: Synopsis>(
         &self,
         values: &mut [S],
@@ -137,15 +133,15 @@ impl Network {
         ensures answer { result ≡ arrive_answer S.Synopsis.kind self.now (length values.old) (length memory.now) node frame.now }
         ensures after { MatchResult result (λ _. Joined S.Synopsis.kind S.Synopsis.form values.old values.new node frame.now) (λ _. values.new ≡ values.old) }
     {
-        is_served(self.count, values, memory)?;
-        self.is_node(node)?;
+        check_lent(self.count, values, memory)?;
+        self.check_node(node)?;
         let mut heard = S::empty();
         heard.decode(frame)?;
         fuse_at(values, node, &heard);
         Ok(())
     }
 
-    // SEND: a node's value, encoded into a slot.
+    /// SEND: a node's value, encoded into a slot.
     pub fn send<S: Synopsis>(
         &mut self,
         values: &[S],
@@ -157,9 +153,9 @@ impl Network {
         ensures table { MatchResult result (λ _. self.new ≡ switched self.old slot (slot_of node (length (value_frame S.Synopsis.kind S.Synopsis.form values.now node)))) (λ _. self.new ≡ self.old) }
         ensures bytes { MatchResult result (λ _. memory.new ≡ placed memory.old (slot_start slot) (value_frame S.Synopsis.kind S.Synopsis.form values.now node)) (λ _. memory.new ≡ memory.old) }
     {
-        is_served(self.count, values, memory)?;
-        self.is_node(node)?;
-        is_slot(slot)?;
+        check_lent(self.count, values, memory)?;
+        self.check_node(node)?;
+        check_slot(slot)?;
         if self.slots[slot].is_some() {
             return Err(NetworkFault::SlotFilled);
         }
@@ -168,7 +164,7 @@ impl Network {
         Ok(())
     }
 
-    // DELIVER: what a slot holds, at a node; the slot stays filled.
+    /// DELIVER: what a slot holds, at a node; the slot stays filled.
     pub fn deliver<S: Synopsis>(
         &self,
         values: &mut [S],
@@ -179,13 +175,13 @@ impl Network {
         ensures answer { result ≡ deliver_answer S.Synopsis.kind self.now (length values.old) (length memory.now) memory.now slot node }
         ensures after { MatchResult result (λ _. Joined S.Synopsis.kind S.Synopsis.form values.old values.new node (slot_frame memory.now slot (slice_index_or self.now.slots slot no_slot))) (λ _. values.new ≡ values.old) }
     {
-        is_served(self.count, values, memory)?;
-        is_slot(slot)?;
-        self.is_node(node)?;
+        check_lent(self.count, values, memory)?;
+        check_slot(slot)?;
+        self.check_node(node)?;
         let Filled { length, .. } = self.slots[slot].ok_or(NetworkFault::SlotFree)?;
         let at = SLOT * slot;
         let mut heard = S::empty();
-        heard.decode(&memory[at..at + length.min(SLOT)])?;
+        heard.decode(&memory[at..at + length])?;
         fuse_at(values, node, &heard);
         Ok(())
     }
@@ -200,8 +196,8 @@ impl Network {
         ensures answer { result ≡ drop_answer S.Synopsis.kind self.old (length values.now) (length memory.now) slot }
         ensures table { MatchResult result (λ _. self.new ≡ switched self.old slot None) (λ _. self.new ≡ self.old) }
     {
-        is_served(self.count, values, memory)?;
-        is_slot(slot)?;
+        check_lent(self.count, values, memory)?;
+        check_slot(slot)?;
         if self.slots[slot].is_none() {
             return Err(NetworkFault::SlotFree);
         }
@@ -209,7 +205,7 @@ impl Network {
         Ok(())
     }
 
-    // READ: a node's encoding at the front of `out`, and its length.
+    /// READ: a node's encoding at the front of `out`, and its length.
     pub fn read<S: Synopsis>(
         &self,
         values: &[S],
@@ -220,12 +216,12 @@ impl Network {
         ensures answer { result ≡ read_answer S.Synopsis.kind self.now (length values.now) (length memory.now) node (value_form S.Synopsis.kind S.Synopsis.form values.now node) (length out.old) }
         ensures after { MatchResult result (λ n. out.new ≡ value_frame S.Synopsis.kind S.Synopsis.form values.now node ++ drop n out.old) (λ _. out.new ≡ out.old) }
     {
-        is_served(self.count, values, memory)?;
-        self.is_node(node)?;
-        values[node].encode(out).map_err(|_| NetworkFault::Room)
+        check_lent(self.count, values, memory)?;
+        self.check_node(node)?;
+        Ok(values[node].encode(out)?)
     }
 
-    // OPEN: so many nodes, all empty, and all slots free.
+    /// OPEN: so many nodes, all empty, and all slots free.
     pub fn open<S: Synopsis>(
         &mut self,
         values: &mut [S],
@@ -239,7 +235,7 @@ impl Network {
         if nodes < 1 || nodes > NODES {
             return Err(NetworkFault::NodeCount);
         }
-        is_served(nodes, values, memory)?;
+        check_lent(nodes, values, memory)?;
         empty_front(values, nodes);
         *self = Network {
             count: nodes,

@@ -1,41 +1,41 @@
 ghost use Rattle.std.specs.Prelude.{◌≡◌, Some};
-ghost use Rattle.network.specs.Faults.{fault_number, fault_text, of_synopsis};
+ghost use Rattle.network.specs.Faults.{fault_number, fault_text, of_synopsis, of_encoding};
 
 use std::error::Error;
 use std::fmt;
-use synopsis::fault::DecodeFault;
+use synopsis::fault::{DecodeFault, EncodeFault};
 
-// Why a network refuses a call.
+/// Why a network refuses a call.
 #[derive(Clone, Copy, PartialEq, Eq, Debug)]
 pub enum NetworkFault {
-    // a node count outside 1 to 16
+    /// 1: a node count outside 1 to 16
     NodeCount,
-    // fewer values than nodes, or fewer bytes than the slots have
-    Brought,
-    // the kind has forms too long for any frame
+    /// 2: fewer values than nodes, or fewer bytes than the slots have
+    TooLittleLent,
+    /// 3: the kind has forms too long for any frame
     Overlong,
-    // a node not below the count
+    /// 4: a node not below the count
     NoNode,
-    // a slot above 31
+    /// 5: a slot above 31
     NoSlot,
-    // the slot is free
+    /// 6: the slot is free
     SlotFree,
-    // the slot is filled
+    /// 7: the slot is filled
     SlotFilled,
-    // fewer bytes than the encoding
+    /// 8: fewer bytes than the encoding
     Room,
-    // bytes that are no frame
+    /// 3, or 9 to 14: bytes that are no frame, with the fault of the kind, whole
     Synopsis(DecodeFault),
 }
 
 impl NetworkFault {
-    // A match and no discriminants, since a synopsis's fault comes with its own number.
+    /// The number of the refusal, 1 to 14.
     pub fn number(self) -> u8
         ensures { result ≡ fault_number self }
     {
         match self {
             NetworkFault::NodeCount => 1,
-            NetworkFault::Brought => 2,
+            NetworkFault::TooLittleLent => 2,
             NetworkFault::Overlong => 3,
             NetworkFault::NoNode => 4,
             NetworkFault::NoSlot => 5,
@@ -47,7 +47,6 @@ impl NetworkFault {
     }
 }
 
-// By hand: of the text that a derive of `thiserror` writes no contract says what it is.
 impl fmt::Display for NetworkFault {
     ghost output = { λ e. Some (fault_text e) };
 
@@ -69,5 +68,16 @@ impl From<DecodeFault> for NetworkFault {
 
     fn from(e: DecodeFault) -> NetworkFault {
         NetworkFault::Synopsis(e)
+    }
+}
+
+impl From<EncodeFault> for NetworkFault {
+    ghost from_gives = { λ e r. r ≡ of_encoding e };
+
+    fn from(e: EncodeFault) -> NetworkFault {
+        match e {
+            EncodeFault::Overlong => NetworkFault::Overlong,
+            EncodeFault::Room => NetworkFault::Room,
+        }
     }
 }

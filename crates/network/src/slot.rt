@@ -1,7 +1,6 @@
-// What lies in a filled slot: which node sent it, and how many bytes it has. The bytes are not beside their length but in
-// the caller's memory, since a network has none of its own.
+/// What lies in a filled slot: which node sent it, and how many bytes it has. The bytes themselves lie in the caller's memory.
 #[derive(Clone, Copy, PartialEq, Eq, Debug)]
 pub struct Filled {
-    pub sender: usize,
-    pub length: usize,
+    pub(crate) sender: usize,
+    pub(crate) length: usize,
 }
