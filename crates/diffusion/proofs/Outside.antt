@@ -92,11 +92,12 @@ module _ (k : Kind) (laws : Laws k) (st : State k) (v m : ℕ) (room : m ≤ len
 module _ {S : Type 0} (k : Kind) (laws : Laws k) (form : S → k.Form) (first : Rack S) where
   pub record Alone (h : History) (last : Rack S) : Type 0 where
     pub count : last.net.count ≡ first.net.count
+    pub many : length last.values ≡ length first.values
     pub values : drop first.net.count last.values ≡ drop first.net.count first.values
     pub outside : SameOutside h first.memory last.memory
 
   alone : {ts : List Turn} {ws : List Told} {h : History} {last : Rack S} → Ran k form first ts ws h last → Alone h last
-  alone begun = record { count = refl; values = refl; outside = record { long = refl; bytes = λ place o. refl } }
+  alone begun = record { count = refl; many = refl; values = refl; outside = record { long = refl; bytes = λ place o. refl } }
   alone (then {h = h} {r = r} ran t after s) =
       let on = alone ran in
       let f = formed k form r in
@@ -106,6 +107,7 @@ module _ {S : Type 0} (k : Kind) (laws : Laws k) (form : S → k.Form) (first : 
       let many : length after.values ≡ length r.values = sym (length-map after.values form) ∙ ap (λ (x : State k). length x.forms) s.leaves ∙ both.1.many ∙ length-map r.values form in
       record {
         count = ap (λ (x : State k). x.net.count) s.leaves ∙ both.1.count ∙ on.count;
+        many = many ∙ on.many;
         values = subst (λ (n : ℕ). drop n after.values ≡ drop n r.values) on.count (same_beyond (written_by (rack_tells k form r t) t.call) r.net.count r.values after.values many both.0 s.others) ∙ on.values;
         outside = record {
           long = ap (λ (x : State k). length x.memory) s.leaves ∙ both.1.long ∙ on.outside.long;
@@ -116,8 +118,8 @@ module _ {S : Type 0} (k : Kind) (laws : Laws k) (form : S → k.Form) (first : 
         };
       }
 
-  pub beyond : (nodes : ℕ) (values : List S) (memory : List ℕ) {ts : List Turn} {ws : List Told} {h : History} {last : Rack S} → Opened k form nodes values memory first → Ran k form first ts ws h last → (drop nodes last.values ≡ drop nodes values) × SameOutside h memory last.memory
+  pub beyond : (nodes : ℕ) (values : List S) (memory : List ℕ) {ts : List Turn} {ws : List Told} {h : History} {last : Rack S} → Opened k form nodes values memory first → Ran k form first ts ws h last → (length last.values ≡ length values) × (drop nodes last.values ≡ drop nodes values) × SameOutside h memory last.memory
   beyond nodes values memory {h = h} {last = last} o ran =
       let on = alone ran in
       let count : first.net.count ≡ nodes = ap (λ net. net.count) o.table in
-      (subst (λ (n : ℕ). drop n last.values ≡ drop n first.values) count on.values ∙ o.empty.others, subst (λ (l : List ℕ). SameOutside h l last.memory) o.same on.outside)
+      (on.many ∙ o.empty.long, subst (λ (n : ℕ). drop n last.values ≡ drop n first.values) count on.values ∙ o.empty.others, subst (λ (l : List ℕ). SameOutside h l last.memory) o.same on.outside)

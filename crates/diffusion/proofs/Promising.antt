@@ -111,8 +111,10 @@ module _ {S : Type 0} (k : Kind) (laws : Laws k) (form : S → k.Form) where
         table = on.table;
         lies = on.lies;
         still = λ t after number at s e. (refused_stays k laws form last after t (refused number at) e refl s, refl);
-        beyond = apart.0;
-        outside = apart.1;
+        count = on.count;
+        many = apart.0;
+        beyond = apart.1;
+        outside = apart.2;
       }
 
   pub promise : Promise k form

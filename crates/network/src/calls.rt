@@ -94,6 +94,13 @@ impl Network {
         }
     }
 
+    /// How many nodes there are: none until it is opened.
+    pub fn nodes(&self) -> usize
+        ensures { result ≡ self.now.count }
+    {
+        self.count
+    }
+
     // That there is such a node.
     fn check_node(&self, node: usize) -> Result<(), NetworkFault>
         ensures answer { result ≡ unless (nat_le self.now.count node) 4 (Ok tt) }
