@@ -18,7 +18,7 @@ use Rattle.diffusion.proofs.Running.{holding, as_many, front}
 use Rattle.diffusion.proofs.Outside.{beyond}
 
 -- an answer that gives bytes met no refusal
-unrefused : (b : Bool) (number : ℕ) (rest : Told) (bs : List ℕ) → refused_if b number rest ≡ bytes bs → rest ≡ bytes bs
+pub unrefused : (b : Bool) (number : ℕ) (rest : Told) (bs : List ℕ) → refused_if b number rest ≡ bytes bs → rest ≡ bytes bs
 unrefused true number rest bs e = absurd (cc)
 unrefused false number rest bs e = e
 
@@ -26,7 +26,7 @@ same_bytes : (xs ys : List ℕ) → bytes xs ≡ bytes ys → xs ≡ ys
 same_bytes xs ys e = cc
 
 -- the bytes that a READ is owed
-read_owed : (k : Kind) (nodes : ℕ) (h : History) (t : Turn) (n room : ℕ) (bs : List ℕ) → t.call ≡ Read n room → owes k nodes h t ≡ bytes bs → bs ≡ k.encoding (node_form k h n)
+pub read_owed : (k : Kind) (nodes : ℕ) (h : History) (t : Turn) (n room : ℕ) (bs : List ℕ) → t.call ≡ Read n room → owes k nodes h t ≡ bytes bs → bs ≡ k.encoding (node_form k h n)
 read_owed k nodes h t n room bs is e =
     let frame = k.encoding (node_form k h n) in
     let called = unrefused (ltb t.values nodes || ltb t.bytes 65536) 2 (call_owes k nodes h t.call) bs e in
