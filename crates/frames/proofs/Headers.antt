@@ -21,19 +21,19 @@ pub record Read (kind fewest most : ℕ) (bytes : List ℕ) (h : Header) : Type 
   pub enough : fewest ≤ h.count
   pub within : h.count ≤ most
 
--- and a fault of it lies within them
+-- and a fault of it lies within them, and is the kind's own
 abbrev pub Opens : (kind fewest most : ℕ) (bytes : List ℕ) → Result Header DecodeFault → Type 0
-Opens kind fewest most bytes r = MatchResult r (Read kind fewest most bytes) (λ e. e.place ≤ length bytes)
+Opens kind fewest most bytes r = MatchResult r (Read kind fewest most bytes) (λ e. (e.place ≤ length bytes) × (e.kind ≡ kind))
 
 pub opened_tells : (kind fewest most : ℕ) (bytes : List ℕ) → Opens kind fewest most bytes (opened kind fewest most bytes)
 opened_tells kind fewest most bytes =
     let P = Opens kind fewest most bytes in
     cond_both (ltb (length bytes) 4) _ _ P
-    (λ e. omega arith)
+    (λ e. (omega arith, refl))
     (λ e. let long : 4 ≤ length bytes = ltb-false (length bytes) 4 e in
     cond_both (eqb (get_or bytes 0 0) kind) _ _ P
     (λ f. cond_both (ltb (get_or bytes 1 0) fewest || ltb most (get_or bytes 1 0)) _ _ P
-    (λ g. omega arith)
+    (λ g. (omega arith, refl))
     (λ g. let parts = or_parts (ltb (get_or bytes 1 0) fewest) (ltb most (get_or bytes 1 0)) g in
     record {
       long = long;
@@ -43,7 +43,7 @@ opened_tells kind fewest most bytes =
       enough = ltb-false (get_or bytes 1 0) fewest parts.0;
       within = ltb-false most (get_or bytes 1 0) parts.1;
     }))
-    (λ f. omega arith))
+    (λ f. (omega arith, refl)))
 
 pub header_read : (kind fewest most : ℕ) (bytes : List ℕ) (h : Header) → Ok h ≡ opened kind fewest most bytes → Read kind fewest most bytes h
 header_read kind fewest most bytes h e = subst (Opens kind fewest most bytes) (sym e) (opened_tells kind fewest most bytes)

@@ -1,8 +1,7 @@
 -- The first four bytes of a frame: the kind number, a count, and in two bytes the end, which is the frame's length.
 use Rattle.std.specs.Prelude.{ℕ, ◌+◌, ◌*◌, cond, ◌||◌, List, ◌∷◌, length, Ok, Err, Result, ◌==◌, nat_lt, slice_index}
-use Rattle.synopsis.specs.declared.fault.Reason.TheVariants as reason
 use Rattle.synopsis.specs.declared.fault.DecodeFault.{DecodeFault}
-use Rattle.synopsis.specs.Faults.{fault}
+use Rattle.synopsis.specs.Faults.{refusal}
 use Rattle.frames.specs.declared.header.Header.{Header}
 use Rattle.frames.specs.Numbers.{in_bytes}
 
@@ -12,8 +11,8 @@ header_bytes kind count end = kind ∷ count ∷ in_bytes 2 end
 -- the count and the end of a frame that begins as one of this kind does, with a count from fewest to most
 abbrev pub opened : ℕ → ℕ → ℕ → List ℕ → Result Header DecodeFault
 opened kind fewest most bytes =
-    cond (nat_lt (length bytes) 4) (Err (fault reason.Short (length bytes) kind))
+    cond (nat_lt (length bytes) 4) (Err (refusal 9 (length bytes) kind))
     (cond (slice_index bytes 0 == kind)
-    (cond (nat_lt (slice_index bytes 1) fewest || nat_lt most (slice_index bytes 1)) (Err (fault reason.Count 1 kind))
+    (cond (nat_lt (slice_index bytes 1) fewest || nat_lt most (slice_index bytes 1)) (Err (refusal 11 1 kind))
     (Ok (record { count = slice_index bytes 1; end = slice_index bytes 2 * 256 + slice_index bytes 3 })))
-    (Err (fault reason.OtherKind 0 kind)))
+    (Err (refusal 10 0 kind)))
