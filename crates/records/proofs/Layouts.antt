@@ -1,22 +1,16 @@
--- The layouts of numbers read back what they wrote.
-use Rattle.std.proofs.Common.{◌≡◌, ℕ, suc, ◌%◌, ◌^◌, ◌<◌, Bool, true, false, eqb, List, [], length, refl, sym, ap, ◌∙◌, arith}
+-- Numbers that are read from bytes of their width, and from others.
+use Rattle.std.proofs.Common.{◌≡◌, ℕ, ◌%◌, ◌^◌, ◌<◌, Bool, true, false, eqb, List, [], length, refl, sym, ap, ◌∙◌, arith}
 use Rattle.std.specs.List.{AllByRecursion}
 use Rattle.std.proofs.Math.Nat.{zero-mod}
 use Rattle.std.proofs.lemmas.Bool.{cond-true, cond-false, eq-eqb, eqb-true, eqb-false}
 use Rattle.frames.specs.Numbers.{in_bytes, from_bytes}
-use Rattle.frames.proofs.Numbers.{from_in_bytes, in_from_bytes, from_small, length_in}
-use Rattle.records.specs.Records.{Layout, Readable, of_width, numbers, number_layout}
+use Rattle.frames.proofs.Numbers.{in_from_bytes, from_small}
+use Rattle.records.specs.Records.{Layout, of_width, numbers}
 
 -- bytes of a record's width are written over and read whole
 module _ {E : Type 0} (l : Layout E) (bytes : List ℕ) (long : length bytes ≡ l.width) where
   pub whole_width : of_width l bytes ≡ bytes
   whole_width = cond-true _ bytes _ (eq-eqb (length bytes) l.width long)
-
-pub numbers_readable : (w : ℕ) → Readable (numbers (suc w))
-numbers_readable w = record { sized = length_in (suc w); back = from_in_bytes w }
-
-pub number_readable : Readable number_layout
-number_readable = numbers_readable 7
 
 -- a number that is read from bytes of its width is the one that they write
 pub number_got : (w : ℕ) (bytes : List ℕ) (x : ℕ) → AllByRecursion (λ b. b < 256) bytes → length bytes ≡ w → x ≡ from_bytes bytes % 256 ^ w → (x ≡ from_bytes (of_width (numbers w) bytes)) × (in_bytes w x ≡ bytes)

@@ -1,14 +1,16 @@
--- A frame of records reads back as them, and what is wrong with other bytes lies within them.
-use Rattle.std.proofs.Common.{◌≡◌, ℕ, zero, suc, ◌*◌, ◌≤◌, true, ◌&&◌, eqb, List, [], ◌∷◌, ◌++◌, length, take, drop, Ok, Err, Result, sym, refl, ap, ◌∙◌, mul-le-mul_right, suc-mul, zero-mul, arith, MatchResult}
-use Rattle.std.specs.List.{flat_map}
-use Rattle.std.proofs.lemmas.List.{length-append, take_at, drop_at}
-use Rattle.std.proofs.lemmas.Bool.{cond_both, cond-true, eq-eqb, eqb-true, and_from, and_parts}
+-- A frame of records reads back as them, bytes that are read are their frame, and what is wrong with others lies within them.
+use Rattle.std.proofs.Common.{◌≡◌, ℕ, zero, suc, ◌+◌, ◌*◌, ◌<◌, ◌≤◌, true, ◌&&◌, eqb, ltb, List, [], ◌∷◌, ◌++◌, length, take, drop, Ok, Err, Result, sym, refl, ap, ◌∙◌, mul-le-mul_right, suc-mul, zero-mul, arith, MatchResult}
+use Rattle.std.specs.List.{All, flat_map}
+use Rattle.std.proofs.lemmas.List.{length-append, length-drop, length-take-le, take_at, drop_at, take-append-drop}
+use Rattle.std.proofs.lemmas.List.Elements.{All-take, All-drop}
+use Rattle.std.proofs.lemmas.Bool.{cond_both, cond-true, eq-eqb, eqb-true, lt-ltb, ltb-true, and_from, and_parts}
 use Rattle.synopsis.specs.declared.fault.DecodeFault.{DecodeFault}
+use Rattle.synopsis.specs.Kind.{fitted, over}
 use Rattle.frames.specs.declared.header.Header.{Header}
-use Rattle.frames.specs.Headers.{opened}
-use Rattle.frames.proofs.Headers.{opened_header, opened_tells, Opens}
+use Rattle.frames.specs.Headers.{header_bytes, opened}
+use Rattle.frames.proofs.Headers.{opened_header, opened_tells, header_back, Opens, Read}
 use Rattle.records.specs.Records.{Layout, Readable, cut}
-use Rattle.records.specs.RecordFrames.{end_of, frame_of, records_behind, read_records}
+use Rattle.records.specs.RecordFrames.{end_of, fits_frame, frame_of, records_length, records_answer, records_after, records_behind, read_records}
 
 module _ {E : Type 0} (l : Layout E) where
   pub length_cut : (n : ℕ) (bytes : List ℕ) → length (cut l n bytes) ≡ n
@@ -35,6 +37,18 @@ module _ {E : Type 0} (l : Layout E) where
         let others : cut l (length xs) (drop l.width (l.written x ++ rest)) ≡ xs = ap (cut l (length xs)) (drop_at (l.written x) rest l.width (rd.sized x)) ∙ cut_joined xs in
         cc
 
+    -- bytes that are cut into records are these, one behind the other
+    pub joined_cut : (n : ℕ) (bytes : List ℕ) → length bytes ≡ n * l.width → All (λ b. b < 256) bytes → flat_map l.written (cut l n bytes) ≡ bytes
+    joined_cut zero [] long small = refl
+    joined_cut zero (b ∷ bytes) long small = let none : suc (length bytes) ≡ 0 = long ∙ zero-mul l.width in absurd (omega arith)
+    joined_cut (suc n) bytes long small =
+        let whole : length bytes ≡ n * l.width + l.width = long ∙ suc-mul n l.width in
+        let front : l.written (l.read (take l.width bytes)) ≡ take l.width bytes =
+        rd.whole (take l.width bytes) (length-take-le l.width bytes (omega arith)) (All-take (λ b. b < 256) l.width bytes small) in
+        let others : flat_map l.written (cut l n (drop l.width bytes)) ≡ drop l.width bytes =
+        joined_cut n (drop l.width bytes) (simp length-drop (omega arith)) (All-drop (λ b. b < 256) l.width bytes small) in
+        ap (λ (b : List ℕ). b ++ flat_map l.written (cut l n (drop l.width bytes))) front ∙ ap (λ (b : List ℕ). take l.width bytes ++ b) others ∙ take-append-drop l.width bytes
+
     pub length_of_frame : (number : ℕ) (xs : List E) → length (frame_of number l xs) ≡ end_of l (length xs)
     length_of_frame number xs = let j = length_joined xs in omega arith
 
@@ -52,24 +66,59 @@ module _ {E : Type 0} (number fewest most : ℕ) (l : Layout E) where
   pub record Told (bytes : List ℕ) (xs : List E) : Type 0 where
     pub enough : fewest ≤ length xs
     pub within : length xs ≤ most
-    pub whole : end_of l (length xs) ≡ length bytes
+    pub ends : end_of l (length xs) ≡ length bytes
+    pub exact : Readable l → All (λ b. b < 256) bytes → frame_of number l xs ≡ bytes
 
-  -- and a fault of them lies within the bytes
-  abbrev pub Tells : List ℕ → Result (List E) DecodeFault → Type 0
-  Tells bytes r = MatchResult r (Told bytes) (λ e. e.place ≤ length bytes)
+  -- and a fault of them lies within the bytes, and is the kind's own
+  abbrev pub TellsRecords : List ℕ → Result (List E) DecodeFault → Type 0
+  TellsRecords bytes r = MatchResult r (Told bytes) (λ e. (e.place ≤ length bytes) × (e.kind ≡ number))
 
-  behind_tells : (bytes : List ℕ) (r : Result Header DecodeFault) → Opens number fewest most bytes r → Tells bytes (records_behind number fewest most l bytes r)
+  -- behind a header that is read stand as many records as it says
+  behind_exact : Readable l → (bytes : List ℕ) (h : Header) → Read number fewest most bytes h → h.end ≡ length bytes → h.end ≡ end_of l h.count → All (λ b. b < 256) bytes → frame_of number l (cut l h.count (drop 4 bytes)) ≡ bytes
+  behind_exact rd bytes h read ends counted small =
+      let long : 4 ≤ length bytes = read.long in
+      let rest : flat_map l.written (cut l h.count (drop 4 bytes)) ≡ drop 4 bytes =
+      joined_cut l rd h.count (drop 4 bytes) (simp length-drop (omega arith)) (All-drop (λ b. b < 256) 4 bytes small) in
+      ap (λ (n : ℕ). header_bytes number n (end_of l n) ++ flat_map l.written (cut l h.count (drop 4 bytes))) (length_cut l h.count (drop 4 bytes))
+      ∙ ap (λ (n : ℕ). header_bytes number h.count n ++ flat_map l.written (cut l h.count (drop 4 bytes))) (sym counted)
+      ∙ ap (λ (b : List ℕ). header_bytes number h.count h.end ++ b) rest
+      ∙ header_back number fewest most bytes h read (small 3 0 (omega arith))
+
+  behind_tells : (bytes : List ℕ) (r : Result Header DecodeFault) → Opens number fewest most bytes r → TellsRecords bytes (records_behind number fewest most l bytes r)
   behind_tells bytes (Err e) h = h
   behind_tells bytes (Ok o) h =
-      cond_both (eqb o.end (length bytes) && eqb o.end (end_of l o.count)) _ _ (Tells bytes)
+      cond_both (eqb o.end (length bytes) && eqb o.end (end_of l o.count)) _ _ (TellsRecords bytes)
       (λ q. let p = and_parts (eqb o.end (length bytes)) (eqb o.end (end_of l o.count)) q in
+      let ends = eqb-true o.end (length bytes) p.0 in
+      let counted = eqb-true o.end (end_of l o.count) p.1 in
       let n : length (cut l o.count (drop 4 bytes)) ≡ o.count = length_cut l o.count (drop 4 bytes) in
       record {
         enough = let e : fewest ≤ o.count = h.enough in omega arith;
         within = let e : o.count ≤ most = h.within in omega arith;
-        whole = ap (end_of l) n ∙ sym (eqb-true o.end (end_of l o.count) p.1) ∙ eqb-true o.end (length bytes) p.0;
+        ends = ap (end_of l) n ∙ sym counted ∙ ends;
+        exact = λ rd small. behind_exact rd bytes o h ends counted small;
       })
-      (λ q. let long : 4 ≤ length bytes = h.long in omega arith)
+      (λ q. let long : 4 ≤ length bytes = h.long in (omega arith, refl))
 
-  pub records_tell : (bytes : List ℕ) → Tells bytes (read_records number fewest most l bytes)
+  pub records_tell : (bytes : List ℕ) → TellsRecords bytes (read_records number fewest most l bytes)
   records_tell bytes = behind_tells bytes (opened number fewest most bytes) (opened_tells number fewest most bytes)
+
+-- records that are no more than some that fit a frame fit too: their length, what is answered where they are written, and what
+-- is written, are those of their frame
+module _ {E : Type 0} (number : ℕ) (l : Layout E) (most : ℕ) (fits : fits_frame l most ≡ true) (xs : List E) (few : length xs ≤ most) where
+  fewer_fit : fits_frame l (length xs) ≡ true
+  fewer_fit =
+      let p = and_parts (ltb most 256) (ltb (end_of l most) 65536) fits in
+      let small = ltb-true most 256 p.0 in
+      let short = ltb-true (end_of l most) 65536 p.1 in
+      let m = end_mono l (length xs) most few in
+      and_from _ _ (lt-ltb (length xs) 256 (omega arith)) (lt-ltb (end_of l (length xs)) 65536 (omega arith))
+
+  pub length_fits : Readable l → records_length l (length xs) ≡ length (frame_of number l xs)
+  length_fits rd = cond-true (fits_frame l (length xs)) _ _ fewer_fit ∙ sym (length_of_frame l rd number xs)
+
+  pub answer_fits : (room : ℕ) → records_answer number l xs room ≡ fitted (frame_of number l xs) room
+  answer_fits room = cond-true (fits_frame l (length xs)) _ _ fewer_fit
+
+  pub after_fits : (bytes : List ℕ) → records_after number l xs bytes ≡ over (frame_of number l xs) bytes
+  after_fits bytes = cond-true (fits_frame l (length xs)) _ _ fewer_fit

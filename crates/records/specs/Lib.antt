@@ -1,3 +1,4 @@
 pub mod Records
+pub mod Layouts
 pub mod RecordFrames
 pub mod RunKind

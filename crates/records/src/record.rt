@@ -1,8 +1,8 @@
 ghost use Rattle.std.specs.Prelude.{◌≡◌, ◌*◌, ◌%◌, ◌^◌, ◌<◌, ◌==◌, cond, length};
 ghost use Rattle.std.specs.List.{AllByRecursion, flat_map};
 ghost use Rattle.frames.specs.Numbers.{low_bytes, from_bytes};
-ghost use Rattle.records.specs.Records.{Layout, Readable, put_over, of_width, number_layout, numbers, cut};
-ghost use Rattle.std.proofs.Common.{rules};
+ghost use Rattle.records.specs.Records.{Layout, Readable, put_over, of_width, numbers, cut};
+ghost use Rattle.records.specs.Layouts.{numbers_readable};
 
 use frames::number::{get_number, put_number};
 use runs::element::Element;
@@ -80,9 +80,9 @@ fn get_sized(bytes: &[u8], width: usize) -> u64
 // Numbers of 64 bits, as hash values are: eight bytes, highest first. What it shares with that of 32 bits are the two calls
 // above; no plainer as one, for both it would be a trait of numbers and an impl of that for each, as long as these.
 impl Record for u64 {
-    ghost layout = { number_layout };
+    ghost layout = { numbers 8 };
 
-    ghost readable = { Prim.search rules };
+    ghost readable = { numbers_readable 7 };
 
     fn width() -> usize {
         8
@@ -101,7 +101,7 @@ impl Record for u64 {
 impl Record for u32 {
     ghost layout = { numbers 4 };
 
-    ghost readable = { Prim.search rules };
+    ghost readable = { numbers_readable 3 };
 
     fn width() -> usize {
         4

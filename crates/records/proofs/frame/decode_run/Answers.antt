@@ -1,24 +1,32 @@
-use Rattle.std.proofs.Common.{◌≡◌, ℕ, ◌+◌, ◌-◌, ◌*◌, ◌^◌, ◌<◌, ◌≤◌, length, take, None, sym, ap, ◌∙◌, arith, rules}
+use Rattle.std.proofs.Common.{◌≡◌, ℕ, true, ltb, ◌+◌, ◌-◌, ◌*◌, ◌^◌, ◌<◌, ◌≤◌, length, take, None, sym, ap, ◌∙◌, arith, rules}
 use Rattle.std.proofs.lemmas.List.{length-take}
+use Rattle.std.proofs.lemmas.Bool.{ltb-true, and_parts}
 use Rattle.runs.specs.Runs.{first_fall}
 use Rattle.runs.proofs.Forms.{fall_inside, rising_if_none}
-use Rattle.records.specs.RunKind.{rising_or}
-use Rattle.records.proofs.RunLaws.{in_order, frame_in_order}
-use Rattle.records.proofs.Decoding.{fall_fits}
+use Rattle.records.specs.Records.{Layout}
+use Rattle.records.specs.RecordFrames.{end_of, fits_frame}
+use Rattle.records.specs.RunKind.{rising_or, in_order}
+use Rattle.records.proofs.RecordFrames.{end_mono}
 use Rattle.records.proofs.frame.decode_run.Given as given
 use Rattle.records.proofs.frame.decode_run.Goals as goal
 use Rattle.records.proofs.frame.decode_run.Goals.{In-Some}
 
+-- the place of a record that does not rise is within a frame that the records fit
+fall_fits : {E : Type 0} (l : Layout E) (i n v : ℕ) → i < n → fits_frame l n ≡ true → v ≡ l.width → 4 + i * v < 65536
+fall_fits l i n v lt fits same =
+    let short = ltb-true (end_of l n) 65536 (and_parts (ltb n 256) (ltb (end_of l n) 65536) fits).1 in
+    let m = end_mono l i n (omega arith) in
+    let q : i * v ≡ i * l.width = ap (λ (k : ℕ). i * k) same in
+    omega arith
+
 -- the place of the record that does not rise
-fall_place : (g : given.Over) (c : In-Some g) → 4 + c.in-Some.i * c.width-width.result < 2 ^ 64
+fall_place : (g : given.Over) (c : In-Some g) → 4 + c.in-Some.i * c.width-width.result < 65536
 fall_place g c =
-    let order = g.E.Ord.cmp in
     let n = c.in_ok-count.count in
-    let within : n ≤ length c.args.out.now = c.in_ok-count.ensures.within in
     let items = take (n - 0) c.decode_records.new.out in
     let few : length items ≤ n = simp length-take (omega arith) in
-    let lt = fall_inside order items c.in-Some.i (sym c.in-Some.ensures) in
-    fall_fits c.in-Some.i n g.E.Record.layout.width c.width-width.result (length c.args.out.now) (omega arith) within c.requires.1 c.width-width.ensures
+    let lt = fall_inside g.E.Ord.cmp items c.in-Some.i (sym c.in-Some.ensures) in
+    fall_fits g.E.Record.layout c.in-Some.i n c.width-width.result (omega arith) c.in_ok-count.ensures.fits c.width-width.ensures
 
 pub overflow_mul-i : goal.overflow_mul-i
 overflow_mul-i g c =
@@ -41,7 +49,7 @@ returns-clause-answer g c =
     let z : n - 0 ≡ n = omega arith in
     let none : first_fall order items ≡ None = sym (c.in_default.ensures ∙ ap (λ (k : ℕ). first_fall order (take k after)) z) in (
       p.within,
-      frame_in_order c.args.kind most layout order c.args.frame.now ∙ ap (in_order c.args.kind most layout order) p.reads ∙ ap (rising_or c.args.kind most layout order items) none,
+      ap (in_order c.args.kind most layout order) p.reads ∙ ap (rising_or c.args.kind most layout order items) none,
       rising_if_none order items none,
       p.back,
       p.rest,
