@@ -52,6 +52,7 @@ bitmaps_kind = record {
   Form = Maps;
   number = 1;
   greatest = 260;
+  below = [];
   none = as_maps blank;
   single = λ r. as_maps (marked (mark_of (hash_of r)));
   join = λ x y. as_maps (or_maps x.each y.each);

@@ -1,15 +1,16 @@
 -- Bitmaps are a lawful kind.
-use Rattle.std.specs.Prelude.{◌≡◌, ℕ, ◌+◌, ◌*◌, Bool, true, false, List, length, Ok, Err, Result, ◌==◌, nat_eq, refl}
+use Rattle.std.specs.Prelude.{◌≡◌, ℕ, ◌+◌, ◌*◌, Bool, true, false, List, [], length, Ok, Err, Result, ◌==◌, nat_eq, refl}
 use Rattle.std.proofs.Common.{sym, ap, ◌∙◌, arith}
 use mathlib.Core.HLevel.{is_prop→PathP}
 use Rattle.std.proofs.Math.Nat.{ℕ_set}
 use Rattle.std.proofs.lemmas.Bool.{eq-eqb, false≢true, ltb-true}
 use Rattle.synopsis.specs.declared.fault.DecodeFault.{DecodeFault}
-use Rattle.synopsis.specs.Kind.{Laws, Inside}
+use Rattle.synopsis.specs.Kind.{Laws}
+use Rattle.synopsis.proofs.Reading.{read_apart, own_fault, Tells, tells_exact, tells_arises, tells_inside}
 use Rattle.records.specs.Records.{Readable}
 use Rattle.records.specs.RecordFrames.{frame_of, read_records}
-use Rattle.records.proofs.Layouts.{numbers_readable}
-use Rattle.records.proofs.RecordFrames.{length_of_frame, records_back, records_tell, Tells}
+use Rattle.records.specs.Layouts.{numbers_readable}
+use Rattle.records.proofs.RecordFrames.{length_of_frame, records_back, records_tell, TellsRecords}
 use Rattle.bitmaps.specs.Bitmaps.{Maps, maps_if, as_maps, or_maps, map_layout, formed, bitmaps_kind}
 use Rattle.bitmaps.specs.Ors.{length_or, maps_assoc, maps_comm, maps_idem, maps_unit}
 
@@ -39,9 +40,15 @@ map_readable = numbers_readable 3
 pub frame_long : (x : Maps) → length (frame_of 1 map_layout x.each) ≡ 260
 frame_long x = length_of_frame map_layout map_readable 1 x.each ∙ ap (λ (n : ℕ). 4 + n * 4) x.whole
 
-formed_inside : (bytes : List ℕ) (r : Result (List ℕ) DecodeFault) → Tells 1 64 64 map_layout bytes r → Inside (length bytes) (formed r)
-formed_inside bytes (Err e) h = h
-formed_inside bytes (Ok xs) h = tt
+formed_tells : (bytes : List ℕ) (r : Result (List ℕ) DecodeFault) → TellsRecords 1 64 64 map_layout bytes r → Tells bitmaps_kind bytes (formed r)
+formed_tells bytes (Err e) h = (h.0, own_fault 1 [] e.kind h.1)
+formed_tells bytes (Ok xs) h = λ small. let few = h.within in let many = h.enough in ap (frame_of 1 map_layout) (kept xs (omega arith)) ∙ h.exact map_readable small
+
+maps_tell : (bytes : List ℕ) → Tells bitmaps_kind bytes (bitmaps_kind.decoding bytes)
+maps_tell bytes = formed_tells bytes (read_records 1 64 64 map_layout bytes) (records_tell 1 64 64 map_layout bytes)
+
+maps_back : (x : Maps) → bitmaps_kind.decoding (bitmaps_kind.encoding x) ≡ Ok x
+maps_back x = let n = x.whole in ap formed (records_back 1 64 64 map_layout map_readable x.each (omega arith) (omega arith)) ∙ ap Ok (of_each x)
 
 pub bitmaps_laws : Laws bitmaps_kind
 bitmaps_laws = record {
@@ -52,7 +59,10 @@ bitmaps_laws = record {
   bounded = omega arith;
   least = λ _ x. let n = frame_long x in omega arith;
   most = λ _ x. let n = frame_long x in omega arith;
-  back = λ _ x. let n = x.whole in ap formed (records_back 1 64 64 map_layout map_readable x.each (omega arith) (omega arith)) ∙ ap Ok (of_each x);
-  inside = λ bytes. formed_inside bytes (read_records 1 64 64 map_layout bytes) (records_tell 1 64 64 map_layout bytes);
+  back = λ _ x. maps_back x;
+  apart = λ _ x y. read_apart bitmaps_kind.encoding bitmaps_kind.decoding x y (maps_back x) (maps_back y);
+  exact = tells_exact bitmaps_kind maps_tell;
+  arises = tells_arises bitmaps_kind maps_tell;
+  inside = tells_inside bitmaps_kind maps_tell;
   shut = λ o bytes. let lt = ltb-true 2048 260 o in absurd (omega arith);
 }

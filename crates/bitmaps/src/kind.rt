@@ -4,7 +4,7 @@ ghost use Rattle.bitmaps.specs.Forms.{bitmaps_laws};
 
 use crate::maps::Bitmaps;
 use readings::{Reading, mark};
-use records::frame::{decode_records, encode_run};
+use records::frame::{decode_records, encode_records};
 use synopsis::fault::{DecodeFault, EncodeFault};
 use synopsis::kind::Synopsis;
 
@@ -58,7 +58,7 @@ impl Synopsis for Bitmaps {
     }
 
     fn encode(&self, out: &mut [u8]) -> Result<usize, EncodeFault> {
-        encode_run(Self::NUMBER, &self.maps, out)
+        encode_records(Self::NUMBER, &self.maps, out)
     }
 
     fn decode(&mut self, frame: &[u8]) -> Result<(), DecodeFault> {
