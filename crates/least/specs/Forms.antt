@@ -4,10 +4,10 @@ use Rattle.runs.specs.Order.{by_size}
 use Rattle.runs.proofs.Orders.{size_lawful}
 use Rattle.readings.specs.Readings.{hash_of}
 use Rattle.synopsis.specs.Kind.{Laws}
-use Rattle.records.specs.Records.{number_layout}
+use Rattle.records.specs.Records.{numbers}
+use Rattle.records.specs.Layouts.{numbers_readable}
 use Rattle.records.proofs.RunLaws.{run_laws}
-use Rattle.records.proofs.Layouts.{number_readable}
 use Rattle.least.specs.Least.{least_kind}
 
 pub least_laws : Laws least_kind
-least_laws = run_laws 2 64 number_layout by_size number_readable hash_of size_lawful (omega arith)
+least_laws = run_laws 2 64 (numbers 8) by_size (numbers_readable 7) hash_of size_lawful (omega arith)

@@ -3,27 +3,20 @@ use Rattle.std.specs.Prelude.{ℕ, ◌+◌, ◌*◌, ◌/◌, ◌^◌, Bool, con
 use Rattle.readings.specs.Readings.{hash_of}
 use Rattle.synopsis.specs.Kind.{Kind}
 use Rattle.runs.specs.Order.{by_size}
-use Rattle.runs.specs.Runs.{Run, keeps, counts, form_of}
-use Rattle.records.specs.Records.{number_layout}
+use Rattle.runs.specs.Runs.{Run, form_of}
+use Rattle.records.specs.Records.{numbers}
 use Rattle.records.specs.RunKind.{run_kind}
 use Rattle.least.specs.declared.row.LeastValues.{LeastValues}
 
 abbrev pub least_kind : Kind
-least_kind = run_kind 2 64 number_layout by_size hash_of
-
--- the values that a row counts
-abbrev pub counted : LeastValues → List ℕ
-counted row = counts row.row
+least_kind = run_kind 2 64 (numbers 8) by_size hash_of
 
 -- an unused place holds zero
 abbrev pub unused : ℕ → Bool
 unused x = x == 0
 
--- the check of a plain row: each of its values is less than the next, and zeros stand behind them
-abbrev pub row_kept : LeastValues → Bool
-row_kept row = keeps by_size unused row.row
-
--- what a plain row stands for: the run of its values, or the empty one where it fails the check
+-- what a plain row stands for: the run of its values, or the empty one where it fails the check, by which each of its values is
+-- less than the next and zeros stand behind them
 abbrev pub least_form : LeastValues → Run by_size 64
 least_form row = form_of by_size unused row.row
 

@@ -61,11 +61,11 @@ impl Synopsis for LeastValues {
     }
 
     fn length(&self) -> usize {
-        run_length(LeastRun::of(&self.row).as_slice())
+        run_length(&LeastRun::of(&self.row))
     }
 
     fn encode(&self, out: &mut [u8]) -> Result<usize, EncodeFault> {
-        encode_run(Self::NUMBER, LeastRun::of(&self.row).as_slice(), out)
+        encode_run(Self::NUMBER, &LeastRun::of(&self.row), out)
     }
 
     fn decode(&mut self, frame: &[u8]) -> Result<(), DecodeFault> {

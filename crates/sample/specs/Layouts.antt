@@ -1,17 +1,17 @@
 -- Records of a sample are told apart by their key, and read back as they were written.
-use Rattle.std.specs.Prelude.{◌≡◌, ℕ, Bool, true, ◌&&◌, ◌==◌, T, List, ◌++◌, length, take, drop}
+use Rattle.std.specs.Prelude.{◌≡◌, ℕ, ◌<◌, Bool, true, ◌&&◌, ◌==◌, T, List, ◌++◌, take, drop}
 use Rattle.std.proofs.Common.{refl, sym, ap, ◌∙◌, arith}
-use borrow.Rule.Slice.PartMut.{put_mid}
-use Rattle.std.proofs.lemmas.List.{length-append, length-drop, take_all, drop_all, drop-drop, append_assoc, append-nil, take-append-drop}
+use Rattle.std.proofs.lemmas.List.{length-append, length-drop, length-take-le, drop-drop, take-append-drop}
+use Rattle.std.proofs.lemmas.List.Elements.{All-take, All-drop}
 use Rattle.std.proofs.lemmas.Bool.Decides.{nat_tests}
 use Rattle.std.specs.Cmp.{IsTotalOrder, IsPartialOrder, Agrees, both_ways, Equal-is, partial_order_from_agreeing_total}
 use Rattle.std.specs.Ordering.{as_partial_cmp, eq_by_cmp, is_eq}
 use Rattle.runs.specs.Order.{Lawful}
 use Rattle.runs.proofs.Orders.{key_lawful, lawful_total, lawful_self}
 use Rattle.frames.specs.Numbers.{in_bytes, from_bytes}
-use Rattle.frames.proofs.Fronts.{next_written}
 use Rattle.frames.proofs.Numbers.{from_in_bytes, length_in}
 use Rattle.records.specs.Records.{Readable}
+use Rattle.records.specs.Layouts.{numbers_readable}
 use Rattle.sample.specs.declared.record.SampleRecord.{SampleRecord}
 use Rattle.sample.specs.Records.{sample_key, by_hash, unused, sample_layout}
 
@@ -74,36 +74,14 @@ sample_readable = record {
       let c = length_in 8 x.amount in
       omega (arith, length-append (in_bytes 8 x.item) (in_bytes 4 x.tenant ++ in_bytes 8 x.amount), length-append (in_bytes 4 x.tenant) (in_bytes 8 x.amount));
   back = λ x. same_record _ x (from_in_bytes 7 x.item) (from_in_bytes 3 x.tenant) (from_in_bytes 7 x.amount);
+  whole = λ bytes long small.
+      let behind = All-drop (λ b. b < 256) 8 bytes small in
+      let item = (numbers_readable 7).whole (take 8 bytes) (length-take-le 8 bytes (omega arith)) (All-take (λ b. b < 256) 8 bytes small) in
+      let tenant = (numbers_readable 3).whole (take 4 (drop 8 bytes)) (length-take-le 4 (drop 8 bytes) (simp length-drop (omega arith))) (All-take (λ b. b < 256) 4 (drop 8 bytes) behind) in
+      let amount = (numbers_readable 7).whole (drop 12 bytes) (simp length-drop (omega arith)) (All-drop (λ b. b < 256) 12 bytes small) in
+      ap (λ (l : List ℕ). l ++ (in_bytes 4 (from_bytes (take 4 (drop 8 bytes))) ++ in_bytes 8 (from_bytes (drop 12 bytes)))) item
+      ∙ ap (λ (l : List ℕ). take 8 bytes ++ (l ++ in_bytes 8 (from_bytes (drop 12 bytes)))) tenant
+      ∙ ap (λ (l : List ℕ). take 8 bytes ++ (take 4 (drop 8 bytes) ++ l)) (amount ∙ sym (drop-drop 4 8 bytes))
+      ∙ ap (λ (l : List ℕ). take 8 bytes ++ l) (take-append-drop 4 (drop 8 bytes))
+      ∙ take-append-drop 8 bytes;
 }
-
--- three parts written one behind the other
-pub parts_written : (x : SampleRecord) (out a b c : List ℕ) → length out ≡ 20 → a ≡ in_bytes 8 x.item → b ≡ in_bytes 4 x.tenant → c ≡ in_bytes 8 x.amount
-    → put_mid 12 8 (put_mid 8 4 (a ++ drop 8 out) b) c ≡ sample_layout.written x
-parts_written x out a b c long p q r =
-    let eight : length a ≡ 8 = ap length p in
-    let four : length b ≡ 4 = ap length q in
-    let twelve : length (a ++ b) ≡ 12 = length-append a b ∙ omega arith in
-    ap (λ (l : List ℕ). put_mid 12 8 l c) (next_written a out 8 12 eight (omega arith) b)
-    ∙ next_written (a ++ b) out 12 20 twelve (omega arith) c
-    ∙ ap (λ (l : List ℕ). ((a ++ b) ++ c) ++ l) (drop_all 20 out (omega arith))
-    ∙ append-nil ((a ++ b) ++ c)
-    ∙ append_assoc a b c
-    ∙ ap (λ (l : List ℕ). l ++ (b ++ c)) p
-    ∙ ap (λ (l : List ℕ). in_bytes 8 x.item ++ (l ++ c)) q
-    ∙ ap (λ (l : List ℕ). in_bytes 8 x.item ++ (in_bytes 4 x.tenant ++ l)) r
-
--- and read
-pub parts_read : (x : SampleRecord) (bytes : List ℕ) → length bytes ≡ 20
-    → (x.item ≡ from_bytes (take 8 bytes)) × (in_bytes 8 x.item ≡ take 8 bytes)
-    → (x.tenant ≡ from_bytes (take 4 (drop 8 bytes))) × (in_bytes 4 x.tenant ≡ take 4 (drop 8 bytes))
-    → (x.amount ≡ from_bytes (take 8 (drop 12 bytes))) × (in_bytes 8 x.amount ≡ take 8 (drop 12 bytes))
-    → (x ≡ sample_layout.read bytes) × (sample_layout.written x ≡ bytes)
-parts_read x bytes long p q r =
-    let rest : take 8 (drop 12 bytes) ≡ drop 12 bytes = take_all 8 (drop 12 bytes) (simp length-drop (omega arith)) in (
-      same_record x _ p.0 q.0 (r.0 ∙ ap from_bytes rest),
-      ap (λ (l : List ℕ). l ++ (in_bytes 4 x.tenant ++ in_bytes 8 x.amount)) p.1
-          ∙ ap (λ (l : List ℕ). take 8 bytes ++ (l ++ in_bytes 8 x.amount)) q.1
-          ∙ ap (λ (l : List ℕ). take 8 bytes ++ (take 4 (drop 8 bytes) ++ l)) (r.1 ∙ rest ∙ sym (drop-drop 4 8 bytes))
-          ∙ ap (λ (l : List ℕ). take 8 bytes ++ l) (take-append-drop 4 (drop 8 bytes))
-          ∙ take-append-drop 8 bytes,
-    )

@@ -44,11 +44,11 @@ impl Synopsis for Sample {
     }
 
     fn length(&self) -> usize {
-        run_length(SampleRun::of(&self.row).as_slice())
+        run_length(&SampleRun::of(&self.row))
     }
 
     fn encode(&self, out: &mut [u8]) -> Result<usize, EncodeFault> {
-        encode_run(Self::NUMBER, SampleRun::of(&self.row).as_slice(), out)
+        encode_run(Self::NUMBER, &SampleRun::of(&self.row), out)
     }
 
     fn decode(&mut self, frame: &[u8]) -> Result<(), DecodeFault> {

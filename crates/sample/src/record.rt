@@ -1,7 +1,7 @@
 ghost use Rattle.std.specs.Prelude.{◌≡◌};
 ghost use Rattle.readings.specs.Readings.{hash_of};
 ghost use Rattle.sample.specs.Records.{record_of, reading_of, by_hash, unused, sample_layout};
-ghost use Rattle.sample.specs.Layouts.{hash_lawful, one_unused, hash_total, hash_agrees, hash_matches, hash_partial};
+ghost use Rattle.sample.specs.Layouts.{hash_lawful, one_unused, hash_total, hash_agrees, hash_matches, hash_partial, sample_readable};
 ghost use Rattle.std.specs.Ordering.{as_partial_cmp};
 ghost use Rattle.std.proofs.Common.{rules};
 
@@ -109,7 +109,7 @@ impl Fresh for SampleRecord {
 impl Record for SampleRecord {
     ghost layout = { sample_layout };
 
-    ghost readable = { Prim.search rules };
+    ghost readable = { sample_readable };
 
     fn width() -> usize {
         WIDTH

@@ -1,10 +1,9 @@
-use Rattle.std.proofs.Common.{◌∙◌}
-use Rattle.records.proofs.Rows.{slice_length}
-use Rattle.sample.specs.Records.{sample_layout}
+use Rattle.std.proofs.Common.{refl, ◌∙◌}
+use Rattle.records.proofs.Rows.{run_length}
+use Rattle.sample.specs.Records.{by_hash, sample_layout}
 use Rattle.sample.specs.Sample.{sample_form}
 use Rattle.sample.specs.Layouts.{sample_readable}
 use Rattle.sample.proofs.kind.SampleSynopsis.length.Goals as goal
 
 pub returns : goal.returns
-returns c =
-    c.run_length.ensures ∙ slice_length 3 sample_layout sample_readable c.as_slice.result.now (sample_form c.args.self.now).items (c.as_slice.ensures ∙ c.of.ensures)
+returns c = c.run_length.ensures ∙ run_length 3 32 sample_layout by_hash refl (sample_form c.args.self.now) _ c.of.ensures sample_readable
