@@ -1,8 +1,7 @@
 -- The pair of two kinds, which has both side by side in its forms and in its frames.
-use Rattle.std.specs.Prelude.{ℕ, ◌+◌, ◌-◌, ◌*◌, min, Bool, cond, ◌||◌, List, ◌++◌, length, Ok, Err, Result, ◌==◌, nat_lt, slice_index}
-use Rattle.synopsis.specs.declared.fault.Reason.TheVariants as reason
+use Rattle.std.specs.Prelude.{ℕ, ◌+◌, ◌-◌, ◌*◌, min, Bool, cond, ◌||◌, List, ◌∷◌, ◌++◌, length, Ok, Err, Result, ◌==◌, nat_lt, slice_index}
 use Rattle.synopsis.specs.declared.fault.DecodeFault.{DecodeFault}
-use Rattle.synopsis.specs.Faults.{fault}
+use Rattle.synopsis.specs.Faults.{refusal}
 use Rattle.synopsis.specs.Kind.{Kind, longest}
 use Rattle.frames.specs.declared.header.Header.{Header}
 use Rattle.frames.specs.Headers.{header_bytes, opened}
@@ -28,8 +27,8 @@ misplaced bytes = nat_lt (length bytes) 6 || (nat_lt (offset_in bytes) 10 || nat
 abbrev pub offset_after : List ℕ → Header → Result ℕ DecodeFault
 offset_after bytes header =
     cond (header.end == length bytes)
-    (cond (misplaced bytes) (Err (fault reason.Offset 4 5)) (Ok (offset_in bytes)))
-    (Err (fault reason.End 2 5))
+    (cond (misplaced bytes) (Err (refusal 14 4 5)) (Ok (offset_in bytes)))
+    (Err (refusal 12 2 5))
 
 -- the offset of the second side
 abbrev pub second_offset : List ℕ → Result ℕ DecodeFault
@@ -50,9 +49,10 @@ module _ (a b : Kind) where
     Form = a.Form × b.Form;
     number = 5;
     greatest = pair_greatest;
+    below = (a.number ∷ a.below) ++ (b.number ∷ b.below);
     none = (a.none, b.none);
     single = λ r. (a.single r, b.single r);
     join = λ x y. (a.join x.0 y.0, b.join x.1 y.1);
     encoding = λ x. pair_bytes (a.encoding x.0) (b.encoding x.1);
-    decoding = λ bytes. cond (nat_lt longest pair_greatest) (Err (fault reason.Overlong 0 5)) (then_read (second_offset bytes) (read_sides bytes));
+    decoding = λ bytes. cond (nat_lt longest pair_greatest) (Err (refusal 3 0 5)) (then_read (second_offset bytes) (read_sides bytes));
   }

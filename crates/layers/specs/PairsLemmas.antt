@@ -1,23 +1,25 @@
 -- The pair of two lawful kinds is lawful, and its frames are written and read side by side.
-use Rattle.std.specs.Prelude.{◌≡◌, ℕ, ◌+◌, ◌-◌, ◌/◌, ◌%◌, ◌<◌, ◌≤◌, true, false, ◌||◌, List, ◌++◌, length, drop, Ok, Err, Result, MatchResult, ◌==◌, nat_eq, nat_lt, slice_index, slice_index_or, refl}
+use Rattle.std.specs.Prelude.{◌≡◌, ℕ, ◌+◌, ◌-◌, ◌/◌, ◌%◌, ◌<◌, ◌≤◌, true, false, ◌||◌, List, [], ◌∷◌, ◌++◌, length, drop, All, Contains, Ok, Err, Result, MatchResult, ◌==◌, nat_eq, nat_lt, slice_index, slice_index_or, refl}
 use Rattle.std.proofs.Common.{sym, ap, ◌∙◌, arith}
 use borrow.Rule.Slice.PartMut.{put_mid}
 use Rattle.std.specs.Result.{result_map_both}
 use Rattle.std.specs.List.{between}
 use Rattle.std.proofs.lemmas.List.{length-append, take_at, take_all, drop_at, drop-drop, drop_more, take_rest, take-append-drop}
 use Rattle.std.proofs.lemmas.List.Edits.{length-between}
-use Rattle.std.proofs.lemmas.Result.{MatchResult-at_ok}
+use Rattle.std.proofs.lemmas.List.Elements.{All-from_get_or, Contains-append_left, Contains-append_right}
+use Rattle.std.proofs.lemmas.Result.{MatchResult-weaker}
 use Rattle.std.proofs.lemmas.Bool.{ltb-false, eq-eqb, eqb-true, cond-true, cond-false, cond_both, or_parts}
 use Rattle.std.proofs.lemmas.Bool.Decides.{nat_tests}
 use Rattle.synopsis.specs.declared.fault.DecodeFault.{DecodeFault}
-use Rattle.synopsis.specs.Kind.{Kind, Laws, overlong, frame_length, encode_after, Inside}
+use Rattle.synopsis.specs.Kind.{Kind, Laws, overlong, frame_length, encode_after}
+use Rattle.synopsis.proofs.Reading.{read_apart, own_fault, Tells, tells_exact, tells_arises, tells_inside}
 use Rattle.frames.specs.declared.header.Header.{Header}
 use Rattle.frames.specs.Numbers.{in_bytes}
 use Rattle.frames.proofs.Headers.{Read, Opens, opened_header, opened_tells, header_back}
 use Rattle.frames.proofs.Fronts.{next_length, next_written}
 use Rattle.layers.specs.Parts.{then_read, raise, read_part}
 use Rattle.layers.specs.Pairs.{pair_head, pair_bytes, offset_in, misplaced, offset_after, second_offset, read_sides, pair_kind}
-use Rattle.layers.specs.PartsLemmas.{fits_length, room_after, filled, inside_then, inside_part}
+use Rattle.layers.specs.PartsLemmas.{fits_length, room_after, filled, then_tells, part_tells}
 
 -- a pair that is not overlong has no overlong side
 module _ (a b : Kind) (h : overlong (pair_kind a b) ≡ false) where
@@ -67,7 +69,7 @@ pub record Divided (bytes : List ℕ) (at : ℕ) : Type 0 where
 
 module _ (bytes : List ℕ) where
   abbrev OffsetKnown : Result ℕ DecodeFault → Type 0
-  OffsetKnown r = MatchResult r (Divided bytes) (λ e. e.place ≤ length bytes)
+  OffsetKnown r = MatchResult r (Divided bytes) (λ e. (e.place ≤ length bytes) × (e.kind ≡ 5))
 
   offset_after_known : (r : Result Header DecodeFault) → Opens 5 2 2 bytes r → OffsetKnown (then_read r (offset_after bytes))
   offset_after_known (Err e) h = h
@@ -75,7 +77,7 @@ module _ (bytes : List ℕ) where
       let four : 4 ≤ length bytes = h.long in
       let offset = offset_in bytes in
       cond_both (header.end == length bytes) _ _ OffsetKnown
-      (λ e. cond_both (misplaced bytes) _ _ OffsetKnown (λ _. four) (λ f.
+      (λ e. cond_both (misplaced bytes) _ _ OffsetKnown (λ _. (four, refl)) (λ f.
       let long = or_parts (nat_lt (length bytes) 6) (nat_lt offset 10 || nat_lt (length bytes - 4) offset) f in
       let placed = or_parts (nat_lt offset 10) (nat_lt (length bytes - 4) offset) long.1 in
       let most = ltb-false (length bytes - 4) offset placed.1 in
@@ -87,15 +89,14 @@ module _ (bytes : List ℕ) where
         low = ltb-false offset 10 placed.0;
         high = omega arith;
       }))
-      (λ _. omega arith)
+      (λ _. (omega arith, refl))
 
   offset_known : OffsetKnown (second_offset bytes)
   offset_known = offset_after_known _ (opened_tells 5 2 2 bytes)
 
   -- the sides that are read make up the bytes again
-  sides_whole : (at : ℕ) → second_offset bytes ≡ Ok at → ((i : ℕ) → slice_index bytes i < 256) → pair_bytes (between 6 at bytes) (between at (length bytes) bytes) ≡ bytes
-  sides_whole at e small =
-      let d : Divided bytes at = MatchResult-at_ok (Divided bytes) (λ f. f.place ≤ length bytes) at e offset_known in
+  sides_whole : (at : ℕ) → Divided bytes at → All (λ b. b < 256) bytes → pair_bytes (between 6 at bytes) (between at (length bytes) bytes) ≡ bytes
+  sides_whole at d small =
       let first = between 6 at bytes in
       let second = between at (length bytes) bytes in
       let least = d.low in
@@ -104,9 +105,9 @@ module _ (bytes : List ℕ) where
       let whole : 6 + length first + length second ≡ d.header.end = omega (arith, d.ends, length-between bytes at (length bytes) (omega arith)) in
       let rest : first ++ second ≡ drop 6 bytes =
       ap (λ (l : List ℕ). first ++ l) (take_rest bytes at ∙ ap (λ (n : ℕ). drop n bytes) (omega arith) ∙ sym (drop-drop (at - 6) 6 bytes)) ∙ take-append-drop (at - 6) (drop 6 bytes) in
-      let head = header_back 5 2 2 bytes d.header d.read (small 3) in
+      let head = header_back 5 2 2 bytes d.header d.read (small 3 0 (omega arith)) in
       let count : d.header.count ≡ 2 = omega (arith, d.read.enough, d.read.within) in
-      let lt = small 5 in
+      let lt = small 5 0 (omega arith) in
       let b4 : (6 + length first) / 256 ≡ slice_index_or bytes 4 0 = omega (arith, d.offset) in
       let b5 : (6 + length first) / 1 % 256 ≡ slice_index_or bytes 5 0 = omega (arith, d.offset) in
       let d4 = drop_more bytes 4 0 (omega arith) in
@@ -125,17 +126,39 @@ module _ (a b : Kind) (l : Laws a) (m : Laws b) where
       ap (λ (r : Result a.Form DecodeFault). then_read r (λ z. then_read (read_part b at (length bytes) bytes) (λ w. Ok (z, w)))) first
       ∙ ap (λ (r : Result b.Form DecodeFault). then_read r (λ w. Ok (x, w))) second
 
-  sides_inside : (bytes : List ℕ) (r : Result ℕ DecodeFault) → OffsetKnown bytes r → Inside (length bytes) (then_read r (read_sides a b bytes))
-  sides_inside bytes (Err e) h = h
-  sides_inside bytes (Ok at) h =
-      let low = h.low in
-      let high = h.high in
-      inside_then (length bytes) (read_part a 6 at bytes) _ (inside_part a l 6 at bytes (omega arith) (omega arith))
-      (λ x. inside_then (length bytes) (read_part b at (length bytes) bytes) (λ y. Ok (x, y)) (inside_part b m at (length bytes) bytes (omega arith) (omega arith)) (λ _. tt))
+  -- a fault arose in the pair itself, or in one of its sides
+  abbrev PairFault : List ℕ → DecodeFault → Type 0
+  PairFault bytes e = (e.place ≤ length bytes) × Contains (5 ∷ (a.number ∷ a.below) ++ (b.number ∷ b.below)) e.kind
 
-  pair_inside : (bytes : List ℕ) → Inside (length bytes) ((pair_kind a b).decoding bytes)
-  pair_inside bytes =
-      cond_both (overlong (pair_kind a b)) _ _ (Inside (length bytes)) (λ _. omega arith) (λ _. sides_inside bytes (second_offset bytes) (offset_known bytes))
+  of_first : (bytes : List ℕ) (e : DecodeFault) → (e.place ≤ length bytes) × Contains (a.number ∷ a.below) e.kind → PairFault bytes e
+  of_first bytes e h = (h.0, Contains-append_right (5 ∷ []) (pair_kind a b).below e.kind (Contains-append_left (a.number ∷ a.below) (b.number ∷ b.below) e.kind h.1))
+
+  of_second : (bytes : List ℕ) (e : DecodeFault) → (e.place ≤ length bytes) × Contains (b.number ∷ b.below) e.kind → PairFault bytes e
+  of_second bytes e h = (h.0, Contains-append_right (5 ∷ []) (pair_kind a b).below e.kind (Contains-append_right (a.number ∷ a.below) (b.number ∷ b.below) e.kind h.1))
+
+  sides_tell : (bytes : List ℕ) (at : ℕ) → Divided bytes at → Tells (pair_kind a b) bytes (read_sides a b bytes at)
+  sides_tell bytes at d =
+      let low = d.low in
+      let high = d.high in
+      let first = part_tells a l 6 at bytes (omega arith) (omega arith) in
+      let second = part_tells b m at (length bytes) bytes (omega arith) (omega arith) in
+      then_tells _ _ (PairFault bytes) (read_part a 6 at bytes) _ (MatchResult-weaker (read_part a 6 at bytes) first (λ _ h. h) (of_first bytes))
+      (λ x x_is. then_tells _ _ (PairFault bytes) (read_part b at (length bytes) bytes) _ (MatchResult-weaker (read_part b at (length bytes) bytes) second (λ _ h. h) (of_second bytes))
+      (λ y y_is small. ap (λ (s : List ℕ). pair_bytes s (b.encoding y)) (x_is small) ∙ ap (pair_bytes (between 6 at bytes)) (y_is small) ∙ sides_whole bytes at d small))
+
+  pair_tells : (bytes : List ℕ) → Tells (pair_kind a b) bytes ((pair_kind a b).decoding bytes)
+  pair_tells bytes =
+      cond_both (overlong (pair_kind a b)) _ _ (Tells (pair_kind a b) bytes)
+      (λ _. (omega arith, own_fault 5 (pair_kind a b).below 5 refl))
+      (λ _. then_tells (Divided bytes) _ (PairFault bytes) (second_offset bytes) (read_sides a b bytes)
+      (MatchResult-weaker (second_offset bytes) (offset_known bytes) (λ _ d. d) (λ e h. (h.0, own_fault 5 (pair_kind a b).below e.kind h.1)))
+      (sides_tell bytes))
+
+  pair_back : overlong (pair_kind a b) ≡ false → (x : a.Form × b.Form) → (pair_kind a b).decoding ((pair_kind a b).encoding x) ≡ Ok x
+  pair_back h x =
+      cond-false (overlong (pair_kind a b)) _ _ h
+      ∙ ap (λ (r : Result ℕ DecodeFault). then_read r (read_sides a b ((pair_kind a b).encoding x))) (offset_back (a.encoding x.0) (b.encoding x.1) (l.least (first_fits a b h) x.0) (m.least (second_fits a b h) x.1))
+      ∙ sides_back h x.0 x.1
 
   pub pair_laws : Laws (pair_kind a b)
   pair_laws = record {
@@ -151,11 +174,11 @@ module _ (a b : Kind) (l : Laws a) (m : Laws b) where
         let second = m.most (second_fits a b h) x.1 in
         let short = ltb-false 2048 (pair_kind a b).greatest h in
         omega arith;
-    back = λ h x.
-        cond-false (overlong (pair_kind a b)) _ _ h
-        ∙ ap (λ (r : Result ℕ DecodeFault). then_read r (read_sides a b ((pair_kind a b).encoding x))) (offset_back (a.encoding x.0) (b.encoding x.1) (l.least (first_fits a b h) x.0) (m.least (second_fits a b h) x.1))
-        ∙ sides_back h x.0 x.1;
-    inside = pair_inside;
+    back = pair_back;
+    apart = λ h x y. read_apart (pair_kind a b).encoding (pair_kind a b).decoding x y (pair_back h x) (pair_back h y);
+    exact = tells_exact (pair_kind a b) pair_tells;
+    arises = tells_arises (pair_kind a b) pair_tells;
+    inside = tells_inside (pair_kind a b) pair_tells;
     shut = λ h bytes. cond-true (overlong (pair_kind a b)) _ _ h;
   }
 
@@ -198,14 +221,13 @@ module _ (a b : Kind) (h : overlong (pair_kind a b) ≡ false) (x : a.Form) (y :
       ∙ room_after (pair_kind a b) h (x, y) out (omega arith)
 
 -- bytes whose sides are read are the frame of both
-pub pair_read : (a b : Kind) → overlong (pair_kind a b) ≡ false → (bytes : List ℕ) (at : ℕ) (x : a.Form) (y : b.Form) → second_offset bytes ≡ Ok at → ((i : ℕ) → slice_index bytes i < 256)
-    → read_part a 6 at bytes ≡ Ok x → a.encoding x ≡ between 6 at bytes
-    → read_part b at (length bytes) bytes ≡ Ok y → b.encoding y ≡ between at (length bytes) bytes
+pub pair_read : (a b : Kind) → Laws a → Laws b → overlong (pair_kind a b) ≡ false → (bytes : List ℕ) (at : ℕ) (x : a.Form) (y : b.Form) → second_offset bytes ≡ Ok at → ((i : ℕ) → slice_index bytes i < 256)
+    → read_part a 6 at bytes ≡ Ok x → read_part b at (length bytes) bytes ≡ Ok y
     → ((pair_kind a b).decoding bytes ≡ Ok (x, y)) × (pair_bytes (a.encoding x) (b.encoding y) ≡ bytes)
-pair_read a b h bytes at x y e small first first_is second second_is = (
-  cond-false (overlong (pair_kind a b)) _ _ h
-      ∙ ap (λ (r : Result ℕ DecodeFault). then_read r (read_sides a b bytes)) e
-      ∙ ap (λ (r : Result a.Form DecodeFault). then_read r (λ z. then_read (read_part b at (length bytes) bytes) (λ w. Ok (z, w)))) first
-      ∙ ap (λ (r : Result b.Form DecodeFault). then_read r (λ w. Ok (x, w))) second,
-  ap (λ (l : List ℕ). pair_bytes l (b.encoding y)) first_is ∙ ap (pair_bytes (between 6 at bytes)) second_is ∙ sides_whole bytes at e small,
-)
+pair_read a b l m h bytes at x y e small first second =
+    let reads : (pair_kind a b).decoding bytes ≡ Ok (x, y) =
+    cond-false (overlong (pair_kind a b)) _ _ h
+    ∙ ap (λ (r : Result ℕ DecodeFault). then_read r (read_sides a b bytes)) e
+    ∙ ap (λ (r : Result a.Form DecodeFault). then_read r (λ z. then_read (read_part b at (length bytes) bytes) (λ w. Ok (z, w)))) first
+    ∙ ap (λ (r : Result b.Form DecodeFault). then_read r (λ w. Ok (x, w))) second in
+    (reads, (pair_laws a b l m).exact bytes (All-from_get_or (λ b. b < 256) bytes 0 (λ i _. small i)) (x, y) reads)
