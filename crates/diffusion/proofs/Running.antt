@@ -5,11 +5,12 @@ use Rattle.std.proofs.lemmas.Bool.{ltb-false, or_parts, cases_lt}
 use Rattle.synopsis.specs.Kind.{Kind, Laws, overlong}
 use Rattle.histories.specs.declared.Turn.{Turn}
 use Rattle.histories.specs.Deeds.{History, deed}
-use Rattle.network.specs.Calls.{unless, served}
+use Rattle.network.specs.Tables.{Table}
+use Rattle.network.specs.Calls.{unless, served, open_answer, opened_network, Emptied}
 use Rattle.network.proofs.Refusing.{not_refused}
 use Rattle.diffusion.specs.Turns.{Told, is_accepted, State}
 use Rattle.diffusion.specs.Listening.{Heard, silence, more}
-use Rattle.diffusion.specs.Runs.{Rack, formed, rack_tells, Step, Opened, Ran, begun, then, Made, Finished, StoppedAt}
+use Rattle.diffusion.specs.Runs.{Rack, rack, formed, rack_tells, Step, Opened, Ran, begun, then, Made, Finished, StoppedAt}
 use Rattle.diffusion.specs.Promise.{Front}
 use Rattle.diffusion.proofs.Keeping.{Holding, holding_opened, turn_holds}
 
@@ -87,8 +88,15 @@ module _ {S L : Type 0} (k : Kind) (form : S → k.Form) (hears stops : L → To
     pub ran : Ran k form first (take i turns) told history last
     pub heard : Heard hears old told now
 
-  pub going : (first : Rack S) → Opened k form nodes values memory first → Going 0 old first
-  going first o = record { first = first; opened = o; told = []; history = []; ran = begun; heard = silence }
+  pub going : (net : Table) (after : List S) → Ok tt ≡ open_answer k nodes (length values) (length memory) → net ≡ opened_network nodes → Emptied form k.none values after nodes → Going 0 old (rack net after memory)
+  going net after accepted table empty = record {
+    first = rack net after memory;
+    opened = record { accepted = sym accepted; table = table; empty = empty; same = refl };
+    told = [];
+    history = [];
+    ran = begun;
+    heard = silence;
+  }
 
   -- so many turns that were made are as many answers
   made_so : (i : ℕ) (first : Rack S) (told : List Told) (h : History) (last : Rack S) → Opened k form nodes values memory first → i ≤ length turns → Ran k form first (take i turns) told h last → (length told ≡ i) × Made k form nodes values memory turns told last

@@ -105,8 +105,8 @@ written_node (Read n room) = None
 
 -- none where the call is refused
 abbrev pub if_accepted : Bool → Option ℕ → Option ℕ
-if_accepted true node = node
-if_accepted false node = None
+if_accepted true written = written
+if_accepted false written = None
 
 abbrev pub written_by : Told → Call → Option ℕ
 written_by told call = if_accepted (is_accepted told) (written_node call)

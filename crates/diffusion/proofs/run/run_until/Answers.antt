@@ -1,4 +1,4 @@
-use Rattle.std.proofs.Common.{refl, sym, arith, rules}
+use Rattle.std.proofs.Common.{arith}
 use Rattle.std.proofs.lemmas.List.{get_or_default}
 use Rattle.diffusion.specs.Turns.{tells}
 use Rattle.diffusion.specs.Runs.{rack}
@@ -10,7 +10,7 @@ pub loop-turn-init : goal.loop-turn-init
 loop-turn-init g c =
     let e = c.in_ok-open.ensures in
     let h = g.L.Listener in
-    going g.S.Synopsis.kind g.S.Synopsis.form h.hears h.stops c.args.nodes c.args.values.now c.args.memory.now c.args.turns.now c.args.listener.now (rack c.open.new.self c.open.new.values c.args.memory.now) (record { accepted = sym e.answer; table = e.table; empty = e.after; same = refl })
+    going g.S.Synopsis.kind g.S.Synopsis.form h.hears h.stops c.args.nodes c.args.values.now c.args.memory.now c.args.turns.now c.args.listener.now c.open.new.self c.open.new.values e.answer e.table e.after
 
 pub loop-turn-preserved : goal.loop-turn-preserved
 loop-turn-preserved g c =
