@@ -4,7 +4,7 @@ ghost use Rattle.std.specs.Option.{option_map};
 ghost use Rattle.bitmaps.specs.Bitmaps.{bitmaps_form, sum_of};
 ghost use Rattle.bitmaps.specs.Bitmaps as bitmaps_specs;
 ghost use Rattle.least.specs.Least.{least_form, estimate_of};
-ghost use Rattle.records.specs.Records.{number_layout};
+ghost use Rattle.records.specs.Records.{numbers};
 ghost use Rattle.sample.specs.Records.{sample_layout};
 ghost use Rattle.sample.specs.Sample.{sample_form};
 ghost use Rattle.cases.specs.Values.{part_or, places_of, unused_record};
@@ -88,7 +88,7 @@ impl Subject for LeastValues {
 
     ghost oddity = { record { row = record { count = 65; places = replicate 64 7 } } };
 
-    ghost row_of = { λ count bytes. option_map (λ places. record { row = record { count = count; places = places } }) (places_of number_layout 0 64 bytes) };
+    ghost row_of = { λ count bytes. option_map (λ places. record { row = record { count = count; places = places } }) (places_of (numbers 8) 0 64 bytes) };
 
     ghost copies = { Prim.search rules };
 

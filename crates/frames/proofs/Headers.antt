@@ -1,5 +1,5 @@
 -- A header reads back as itself, and its faults lie within the bytes.
-use Rattle.std.proofs.Common.{◌≡◌, ℕ, ◌+◌, ◌*◌, ◌/◌, ◌%◌, ◌^◌, ◌<◌, ◌≤◌, false, ◌||◌, eqb, ltb, List, [], ◌∷◌, ◌++◌, length, get_or, drop, Ok, Result, sym, refl, ap, ◌∙◌, subst, arith, MatchResult}
+use Rattle.std.proofs.Common.{◌≡◌, ℕ, ◌+◌, ◌*◌, ◌/◌, ◌%◌, ◌^◌, ◌<◌, ◌≤◌, false, ◌||◌, eqb, ltb, List, [], ◌∷◌, ◌++◌, length, get_or, drop, Ok, Result, refl, ap, ◌∙◌, arith, MatchResult}
 use Rattle.std.proofs.lemmas.Bool.{cond_both, cond-true, cond-false, le-ltb, ltb-false, eq-eqb, eqb-true, or_from, or_parts}
 use Rattle.synopsis.specs.declared.fault.DecodeFault.{DecodeFault}
 use Rattle.frames.specs.declared.header.Header.{Header}
@@ -44,9 +44,6 @@ opened_tells kind fewest most bytes =
       within = ltb-false most (get_or bytes 1 0) parts.1;
     }))
     (λ f. (omega arith, refl)))
-
-pub header_read : (kind fewest most : ℕ) (bytes : List ℕ) (h : Header) → Ok h ≡ opened kind fewest most bytes → Read kind fewest most bytes h
-header_read kind fewest most bytes h e = subst (Opens kind fewest most bytes) (sym e) (opened_tells kind fewest most bytes)
 
 -- bytes are their header and the rest
 pub header_back : (kind fewest most : ℕ) (bytes : List ℕ) (h : Header) → Read kind fewest most bytes h → get_or bytes 3 0 < 256 → header_bytes kind h.count h.end ++ drop 4 bytes ≡ bytes
