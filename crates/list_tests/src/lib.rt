@@ -1,5 +1,8 @@
-// The tests of `lists`, in a crate of their own: with tests a crate is proved twice.
+// The tests of `lists` and of a run that keeps no answers, in a crate of their own: with tests a crate is proved twice.
 #![tactic(auto)]
+
+#[cfg(test)]
+mod counting;
 
 #[cfg(test)]
 mod tests {

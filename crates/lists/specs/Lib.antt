@@ -1,3 +1,2 @@
-pub mod Plans
-pub mod Outcomes
 pub mod Texts
+pub mod Counting

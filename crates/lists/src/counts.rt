@@ -1,8 +1,11 @@
 // What many turns came to.
 ghost use Rattle.std.specs.Prelude.{Some};
+ghost use Rattle.lists.specs.Counting.{Counted};
 ghost use Rattle.lists.specs.Texts.{counts_text};
 
 use diffusion::answer::Answer;
+use diffusion::listener::Listener;
+use std::convert::Infallible;
 use std::fmt;
 
 // The greatest number of a refusal; the least is 1.
@@ -26,25 +29,33 @@ impl Counts {
             sum: 0,
         }
     }
+}
 
-    pub(crate) fn add(&mut self, answer: &Answer) {
+// It hears all answers, and keeps none.
+impl Listener for Counts {
+    type Error = Infallible;
+
+    ghost hears = { Counted };
+
+    ghost stops = { λ _ _ _. ⊥ };
+
+    fn hear(&mut self, answer: Answer<'_>) -> Result<(), Infallible> {
         match answer {
-            Ok(read) => {
+            Answer::Done => self.accepted = self.accepted.saturating_add(1),
+            Answer::Bytes(bytes) => {
                 self.accepted = self.accepted.saturating_add(1);
-                self.sum = read
+                self.sum = bytes
                     .iter()
-                    .flat_map(|bytes| bytes.iter())
                     .fold(self.sum, |sum, byte| sum.saturating_add(u64::from(*byte)));
             }
-            Err(fault) => {
-                let Some(place) = usize::from(fault.number()).checked_sub(1) else {
-                    return;
-                };
+            Answer::Refused(fault) => {
+                let place = usize::from(fault.number()).wrapping_sub(1);
                 if let Some(count) = self.refused.get_mut(place) {
                     *count = count.saturating_add(1);
                 }
             }
         }
+        Ok(())
     }
 }
 

@@ -7,4 +7,3 @@ mod line;
 mod long;
 pub mod outcome;
 pub mod plan;
-pub mod rack;

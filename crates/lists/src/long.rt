@@ -1,18 +1,20 @@
 // Many turns that are made as they come: turn i is told by output i of SplitMix64.
-ghost use Rattle.std.specs.Prelude.{IfOk};
-ghost use Rattle.lists.specs.Outcomes.{IsLong};
+ghost use Rattle.std.specs.Prelude.{◌≡◌, IsErrOf};
 
 use crate::counts::Counts;
 use crate::outcome::Outcome;
 use crate::plan::Front;
-use crate::rack::Rack;
+use diffusion::answers::{Answers, OwnedAnswer};
+use diffusion::turn::make_turn;
 use histories::{Call, Turn};
 use network::calls::MEMORY;
+use network::table::Network;
 use readings::{Reading, output};
-use std::alloc::AllocError;
+use std::alloc::{AllocError, Global};
 use synopsis::kind::{LONGEST, Synopsis};
+use texts::fault::Fault;
 
-pub(crate) const NODES: usize = 7;
+const NODES: usize = 7;
 
 // The frame of the reading of this item, in a room for it; none where the kind is too long for one.
 fn frame_of<S: Synopsis>(item: u64, room: &mut [u8]) -> Option<&[u8]> {
@@ -77,30 +79,50 @@ fn turn_of<S: Synopsis>(word: u64, room: &mut [u8]) -> Turn<'_> {
     }
 }
 
-impl<S: Synopsis> Rack<'_, S> {
-    // What so many turns came to, and then what each node holds.
-    pub(crate) fn long(&mut self, seed: u64, count: u64) -> Result<Outcome, AllocError>
-        ensures { IfOk result IsLong }
-    {
-        let mut counts = Counts::new();
-        let mut room: Vec<u8> = vec![in self.heap; 0; LONGEST]?;
-        for i in 0..count {
-            let word = output(seed, i);
-            counts.add(&self.turn(&turn_of::<S>(word, room.as_mut_slice()))?);
-        }
-        let heap = self.heap;
-        let ends = (0..NODES)
-            .map(|node| {
-                self.turn(&Turn {
-                    values: Front::ALL.values,
-                    bytes: Front::ALL.bytes,
-                    call: Call::Read {
-                        node,
-                        room: LONGEST,
-                    },
-                })
-            })
-            .try_collect(heap)?;
-        Ok(Outcome::Long { counts, ends })
+// What each node holds.
+fn ends<S: Synopsis>(
+    heap: Global,
+    network: &mut Network,
+    values: &mut [S],
+    memory: &mut [u8],
+) -> Result<Vec<OwnedAnswer>, AllocError> {
+    let mut heard = Answers::new(heap);
+    for node in 0..NODES {
+        let turn = Turn {
+            values: Front::ALL.values,
+            bytes: Front::ALL.bytes,
+            call: Call::Read {
+                node,
+                room: LONGEST,
+            },
+        };
+        make_turn(network, values, memory, &turn, &mut heard)?;
     }
+    Ok(heard.answers)
+}
+
+// What so many turns came to, and then what each node holds.
+pub(crate) fn long<S: Synopsis>(
+    heap: Global,
+    values: &mut [S],
+    memory: &mut [u8],
+    seed: u64,
+    count: u64,
+) -> Result<Outcome, Fault>
+    ensures no_case { IsErrOf result Fault.Form → (values.new ≡ values.old) × (memory.new ≡ memory.old) }
+{
+    let mut network = Network::new();
+    network
+        .open(values, memory, NODES)
+        .map_err(|_| Fault::Form)?;
+    let mut counts = Counts::new();
+    let mut room = [0; LONGEST];
+    for i in 0..count {
+        let turn = turn_of::<S>(output(seed, i), &mut room);
+        if let Err(never) = make_turn(&mut network, values, memory, &turn, &mut counts) {
+            match never {}
+        }
+    }
+    let ends = ends(heap, &mut network, values, memory)?;
+    Ok(Outcome::Long { counts, ends })
 }

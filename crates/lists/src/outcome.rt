@@ -1,10 +1,11 @@
 // What became of a line, as its answer is shown.
 ghost use Rattle.std.specs.Prelude.{Some};
-ghost use Rattle.diffusion.specs.Turns.{tells};
-ghost use Rattle.lists.specs.Texts.{no_text, told_text, answers_text, outcome_text};
+ghost use Rattle.diffusion.specs.Turns.{refusal};
+ghost use Rattle.diffusion.specs.Answers.{owned_tells};
+ghost use Rattle.lists.specs.Texts.{told_text, answers_text, outcome_text};
 
 use crate::counts::Counts;
-use diffusion::answer::Answer;
+use diffusion::answers::OwnedAnswer;
 use network::fault::NetworkFault;
 use std::fmt;
 use texts::shown::Hex;
@@ -12,11 +13,14 @@ use texts::shown::Hex;
 #[derive(Drop)]
 pub enum Outcome {
     // all turns were made by one call, or the network was not opened
-    Run(Result<Vec<Answer>, NetworkFault>),
+    Run(Result<Vec<OwnedAnswer>, NetworkFault>),
     // the steps were made one by one
-    Each(Vec<Answer>),
+    Each(Vec<OwnedAnswer>),
     // what many turns came to, and what each node held after them
-    Long { counts: Counts, ends: Vec<Answer> },
+    Long {
+        counts: Counts,
+        ends: Vec<OwnedAnswer>,
+    },
 }
 
 // A refusal: its number, and of bytes that are no frame their place and the kind that refused them. It is told in fewer
@@ -25,7 +29,7 @@ pub enum Outcome {
 struct No(NetworkFault);
 
 impl fmt::Display for No {
-    ghost output = { λ e. Some (no_text e.0) };
+    ghost output = { λ e. Some (told_text (refusal e.0)) };
 
     fn fmt<W: fmt::Write>(&self, f: &mut fmt::Formatter<W>) -> fmt::Result {
         let number = self.0.number();
@@ -38,25 +42,25 @@ impl fmt::Display for No {
     }
 }
 
-// An answer, which is a result and prints nothing by itself.
+// An answer in few words.
 #[derive(Clone, Copy)]
-struct Told<'a>(&'a Answer);
+struct Told<'a>(&'a OwnedAnswer);
 
 impl fmt::Display for Told<'_> {
-    ghost output = { λ t. Some (told_text (tells t.0.now)) };
+    ghost output = { λ t. Some (told_text (owned_tells t.0.now)) };
 
     fn fmt<W: fmt::Write>(&self, f: &mut fmt::Formatter<W>) -> fmt::Result {
         match self.0 {
-            Ok(None) => f.write_str("ok"),
-            Ok(Some(bytes)) => Hex(bytes.as_slice()).fmt(f),
-            Err(fault) => No(*fault).fmt(f),
+            OwnedAnswer::Done => f.write_str("ok"),
+            OwnedAnswer::Bytes(bytes) => Hex(bytes.as_slice()).fmt(f),
+            OwnedAnswer::Refused(fault) => No(*fault).fmt(f),
         }
     }
 }
 
 // Answers, each after a semicolon.
 #[derive(Clone, Copy)]
-struct Brief<'a>(&'a [Answer]);
+struct Brief<'a>(&'a [OwnedAnswer]);
 
 impl fmt::Display for Brief<'_> {
     ghost output = { λ b. Some (answers_text b.0.now) };

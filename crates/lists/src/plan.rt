@@ -1,9 +1,4 @@
 // Turns as a list writes them.
-ghost use Rattle.std.specs.Prelude.{◌≡◌, MatchResult};
-ghost use Rattle.diffusion.specs.Turns.{tells, state_of};
-ghost use Rattle.lists.specs.declared.plan.Step.TheVariants.{Open};
-ghost use Rattle.lists.specs.Plans.{Plans, Opens};
-
 use diffusion::answer::Answer;
 use histories::{Call, Turn};
 use network::table::Network;
@@ -40,21 +35,20 @@ impl Front {
         })
     }
 
-    // OPEN, brought so many of these values and bytes. The memory is only read, but a field that is lent to be read
-    // beside two that are lent to be changed is not covered by the proof's borrow rules.
+    // OPEN, brought so many of these values and bytes.
     pub(crate) fn open<S: Synopsis>(
         self,
         network: &mut Network,
         values: &mut [S],
-        memory: &mut [u8],
+        memory: &[u8],
         nodes: usize,
-    ) -> Answer
-        ensures { Opens S.Synopsis.kind self nodes (state_of S.Synopsis.kind S.Synopsis.form network.old values.old memory.old) (tells result) (state_of S.Synopsis.kind S.Synopsis.form network.new values.new memory.new) }
-    {
+    ) -> Answer<'static> {
         let v = self.values.min(values.len());
         let m = self.bytes.min(memory.len());
-        network.open(&mut values[..v], &memory[..m], nodes)?;
-        Ok(None)
+        match network.open(&mut values[..v], &memory[..m], nodes) {
+            Ok(()) => Answer::Done,
+            Err(fault) => Answer::Refused(fault),
+        }
     }
 }
 
@@ -124,9 +118,7 @@ pub struct Plan {
 
 impl Plan {
     // The turn that it is. Its Err is no failure but the other of the two: how many nodes OPEN opens.
-    pub(crate) fn as_turn(&self) -> Result<Turn<'_>, usize>
-        ensures { MatchResult result (Plans self.now.front self.now.step) (λ nodes. self.now.step ≡ Open nodes) }
-    {
+    pub(crate) fn as_turn(&self) -> Result<Turn<'_>, usize> {
         let call = match &self.step {
             Step::Open { nodes } => return Err(*nodes),
             Step::Arrive { node, frame } => Call::Arrive {

@@ -1,27 +1,34 @@
 -- What comes of a plan.
-use Rattle.std.specs.Prelude.{◌≡◌, ℕ, List, replicate, Err, Result, MatchResult, Vec, is_ok}
+use Rattle.std.specs.Prelude.{◌≡◌, ℕ, List, map, length, replicate, Ok, Err, Result, Vec}
 use Rattle.std.specs.Global.{Global}
 use Rattle.synopsis.specs.Kind.{Kind}
 use Rattle.histories.specs.declared.Turn.{Turn}
-use Rattle.network.specs.declared.table.Network.{Network}
+use Rattle.network.specs.declared.fault.NetworkFault.{NetworkFault}
 use Rattle.network.specs.Calls.{open_answer}
-use Rattle.diffusion.specs.declared.fault.RunFault.{RunFault}
-use Rattle.diffusion.specs.Turns.{TurnAnswer, Made}
-use Rattle.diffusion.specs.Runs.{opening, all_told}
+use Rattle.diffusion.specs.declared.answers.OwnedAnswer.{OwnedAnswer}
+use Rattle.diffusion.specs.Answers.{owned_tells}
+use Rattle.diffusion.specs.Turns.{Told}
+use Rattle.diffusion.specs.Runs.{Rack, Made}
 
-module _ (k : Kind) where
-  -- a network was opened and the turns were made on it, and the values have these forms after them; or it was refused,
-  -- and every value is empty
-  abbrev pub CameOf : (hosts : ℕ) → List Turn → Result (Vec TurnAnswer Global) RunFault → List k.Form → Type 0
-  CameOf hosts turns r forms =
-      MatchResult (opening r)
-      (λ _. (net : Network) × (memory : List ℕ) × Made k hosts turns (all_told r) (is_ok r) (record { net = net; forms = forms; memory = memory }))
-      (λ e. (open_answer k hosts 4 65536 ≡ Err e) × (forms ≡ replicate 4 k.none))
+module _ {S : Type 0} (k : Kind) (form : S → k.Form) where
+  -- all turns were made on a network, each gave one answer, and these are the values after them
+  pub record MadeAll (hosts : ℕ) (turns : List Turn) (told : List Told) (held : List S) : Type 0 where
+    pub values : List S
+    pub memory : List ℕ
+    pub last : Rack S
+    pub made : Made k form hosts values memory turns told last
+    pub each : length told ≡ length turns
+    pub holds : last.values ≡ held
 
-  -- the values have these forms after some outcome of a plan
-  abbrev pub Held : (hosts : ℕ) → List Turn → List k.Form → Type 0
-  Held hosts turns forms = (r : Result (Vec TurnAnswer Global) RunFault) × CameOf hosts turns r forms
+  -- or no network was opened, and every value is empty
+  abbrev pub CameOf : (hosts : ℕ) → List Turn → Result (Vec OwnedAnswer Global) NetworkFault → List S → Type 0
+  CameOf hosts turns (Ok answers) held = MadeAll hosts turns (map owned_tells answers.items) held
+  CameOf hosts turns (Err e) held = (open_answer k hosts 4 65536 ≡ Err e) × (map form held ≡ replicate 4 k.none)
+
+  -- the values are these after some outcome of a plan
+  abbrev pub Held : (hosts : ℕ) → List Turn → List S → Type 0
+  Held hosts turns held = (r : Result (Vec OwnedAnswer Global) NetworkFault) × CameOf hosts turns r held
 
   -- the same of some plan for so many hosts
-  abbrev pub HeldOnce : (hosts : ℕ) → List k.Form → Type 0
-  HeldOnce hosts forms = (turns : List Turn) × Held hosts turns forms
+  abbrev pub HeldOnce : (hosts : ℕ) → List S → Type 0
+  HeldOnce hosts held = (turns : List Turn) × Held hosts turns held

@@ -1,18 +1,18 @@
 // One line of the story: a call and its answer, or equal calls in a row on one slot after another.
 use crate::show::{Asked, Shown};
-use diffusion::answer::Answer;
+use diffusion::answers::OwnedAnswer;
 use histories::Turn;
 use std::fmt;
 
 #[derive(Clone, Copy)]
 pub struct Line<'a> {
     asked: Asked<'a>,
-    answer: &'a Answer,
+    answer: &'a OwnedAnswer,
 }
 
 impl<'a> Line<'a> {
     // The line of one turn.
-    pub(crate) fn new((turn, answer): (&'a Turn<'a>, &'a Answer)) -> Line<'a> {
+    pub(crate) fn new((turn, answer): (&'a Turn<'a>, &'a OwnedAnswer)) -> Line<'a> {
         let asked = Asked::new(turn.call);
         Line { asked, answer }
     }
@@ -31,12 +31,12 @@ impl fmt::Display for Line<'_> {
     fn fmt<W: fmt::Write>(&self, f: &mut fmt::Formatter<W>) -> fmt::Result {
         let asked = self.asked;
         match self.answer {
-            Ok(None) => write!(f, "   {asked}: ok"),
-            Ok(Some(bytes)) => {
+            OwnedAnswer::Done => write!(f, "   {asked}: ok"),
+            OwnedAnswer::Bytes(bytes) => {
                 let shown = Shown(bytes);
                 write!(f, "   {asked}: {shown}")
             }
-            Err(fault) => write!(f, "   {asked}: {fault}"),
+            OwnedAnswer::Refused(fault) => write!(f, "   {asked}: {fault}"),
         }
     }
 }

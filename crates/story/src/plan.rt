@@ -3,7 +3,7 @@ ghost use Rattle.std.specs.Prelude.{◌≡◌, [], IfOk, vec_len, MatchResult};
 ghost use Rattle.histories.specs.declared.Call.TheVariants.{Generate, Arrive, Send, Deliver, Drop, Read};
 ghost use Rattle.story.specs.Plans.{Planned, Kept};
 
-use diffusion::answer::Answer;
+use diffusion::answers::OwnedAnswer;
 use histories::{Call, Turn};
 use network::calls::MEMORY;
 use readings::Reading;
@@ -18,9 +18,12 @@ pub const HOSTS: usize = 4;
 pub struct ReadTurn(usize);
 
 impl ReadTurn {
-    // What the turn read, if it was made and not refused.
-    pub(crate) fn bytes(self, answers: &[Answer]) -> Option<&[u8]> {
-        answers.get(self.0)?.as_ref().ok()?.as_deref()
+    // What the turn read, if it was not refused.
+    pub(crate) fn bytes(self, answers: &[OwnedAnswer]) -> Option<&[u8]> {
+        match answers.get(self.0)? {
+            OwnedAnswer::Bytes(bytes) => Some(bytes.as_slice()),
+            _ => None,
+        }
     }
 }
 

@@ -1,15 +1,15 @@
 // Stories are told: plans are played, and then told step by step with what each turn answered.
-ghost use Rattle.std.specs.Prelude.{◌≡◌, Decides, IfOk, map};
+ghost use Rattle.std.specs.Prelude.{◌≡◌, Decides, IfOk};
 ghost use Rattle.story.specs.Plays.{Held, HeldOnce};
 
 use crate::line::Line;
 use crate::parts;
 use crate::plan::{Plan, Remark};
 use crate::play::play;
-use diffusion::answer::Answer;
-use diffusion::fault::RunFault;
+use diffusion::answers::OwnedAnswer;
 use histories::Turn;
 use itertools::Itertools;
+use network::fault::NetworkFault;
 use std::io;
 use synopsis::kind::Synopsis;
 
@@ -31,7 +31,7 @@ impl Compare for Bytewise {
 }
 
 // A heading, or whether two turns read equal frames.
-fn remark<C: Compare>(rt: &impl Print, remark: Remark, answers: &[Answer]) -> io::Result<()> {
+fn remark<C: Compare>(rt: &impl Print, remark: Remark, answers: &[OwnedAnswer]) -> io::Result<()> {
     match remark {
         Remark::Part(heading) => println!(rt; "{heading}"),
         Remark::Compare { one, other } => {
@@ -48,7 +48,7 @@ fn remark<C: Compare>(rt: &impl Print, remark: Remark, answers: &[Answer]) -> io
 fn lines<'a>(
     rt: &impl Print,
     turns: &'a [Turn<'a>],
-    answers: &'a [Answer],
+    answers: &'a [OwnedAnswer],
     from: usize,
     to: usize,
 ) -> io::Result<()> {
@@ -65,11 +65,11 @@ fn lines<'a>(
     Ok(())
 }
 
-// All turns of a plan that were made, and how many these are.
+// All turns of a plan, and how many these are.
 fn turns<'a, C: Compare>(
     rt: &impl Print,
     plan: &'a Plan<'a>,
-    answers: &'a [Answer],
+    answers: &'a [OwnedAnswer],
 ) -> io::Result<()> {
     let Plan { hosts, script } = plan;
     println!(rt; "   a network of {hosts} hosts is opened: ok")?;
@@ -81,22 +81,18 @@ fn turns<'a, C: Compare>(
     }
     let planned = script.turns.len();
     lines(rt, &script.turns, answers, from, planned)?;
-    let made = answers.len();
-    if made == planned {
-        return println!(rt; "   {planned} turns, and all of them were made.");
-    }
-    println!(rt; "   {planned} turns, and only {made} of them were made.")
+    println!(rt; "   {planned} turns, and all of them were made.")
 }
 
 // What came of a plan.
 fn outcome<'a, C: Compare>(
     rt: &impl Print,
     plan: &'a Plan<'a>,
-    outcome: &'a Result<Vec<Answer>, RunFault>,
+    outcome: &'a Result<Vec<OwnedAnswer>, NetworkFault>,
 ) -> io::Result<()> {
     match outcome {
-        Ok(answers) | Err(RunFault::Memory(answers)) => turns::<C>(rt, plan, answers),
-        Err(RunFault::Refused(fault)) => {
+        Ok(answers) => turns::<C>(rt, plan, answers),
+        Err(fault) => {
             let hosts = plan.hosts;
             println!(rt; "   a network of {hosts} hosts is {fault}")
         }
@@ -108,7 +104,7 @@ pub fn tell<S: Synopsis, C: Compare>(
     rt: &(impl Print + AllocGlobal),
     plan: &Plan<'_>,
 ) -> io::Result<Vec<S>>
-    ensures { IfOk result (λ values. Held S.Synopsis.kind plan.now.hosts plan.now.script.turns.items (map S.Synopsis.form values.items)) }
+    ensures { IfOk result (λ values. Held S.Synopsis.kind S.Synopsis.form plan.now.hosts plan.now.script.turns.items values.items) }
 {
     let played = play::<S>(rt.alloc(), plan)?;
     outcome::<C>(rt, plan, &played.outcome)?;
@@ -117,7 +113,7 @@ pub fn tell<S: Synopsis, C: Compare>(
 
 // The afternoon on a network of one kind, and what the hosts hold at its end.
 pub fn afternoon<S: Synopsis, C: Compare>(rt: &(impl Print + AllocGlobal)) -> io::Result<Vec<S>>
-    ensures { IfOk result (λ values. HeldOnce S.Synopsis.kind 4 (map S.Synopsis.form values.items)) }
+    ensures { IfOk result (λ values. HeldOnce S.Synopsis.kind S.Synopsis.form 4 values.items) }
 {
     let frame = parts::cut_frame::<S>(rt.alloc())?;
     let plan = parts::afternoon(rt.alloc(), &frame)?;

@@ -1,3 +1,4 @@
+use diffusion::answers::OwnedAnswer;
 use least::row::LeastValues;
 use network::fault::NetworkFault;
 use std::test::Fail;
@@ -15,8 +16,8 @@ fn the_example_is_played(rt: HostRuntime) -> Result<(), Fail> {
     };
     assert_eq!(rt; answers.len(), 6);
     let read = b"\x02\x01\x00\x0C\xE2\x20\xA8\x39\x7B\x1D\xCD\xAF";
-    assert!(rt; matches!(&answers[4], Ok(Some(bytes)) if bytes.as_slice() == read.as_slice()));
-    assert!(rt; answers[5] == Err(NetworkFault::SlotFree));
+    assert!(rt; matches!(&answers[4], OwnedAnswer::Bytes(bytes) if bytes.as_slice() == read.as_slice()));
+    assert!(rt; answers[5] == OwnedAnswer::Refused(NetworkFault::SlotFree));
     Ok(())
 }
 
