@@ -91,6 +91,9 @@ fn counts_without_memory(rt: HostRuntime) -> Result<(), Fail> {
     assert!(rt; opened.is_ok());
     assert_eq!(rt; tally.accepted, 4);
     assert_eq!(rt; tally.read, 12);
-    assert_eq!(rt; tally.refused, [0, 0, 1, 0, 1, 0, 1, 1, 0, 0, 0, 0, 0, 0, 0]);
+    assert_eq!(rt;
+        tally.refused,
+        [0, 0, 1, 0, 1, 0, 1, 1, 0, 0, 0, 0, 0, 0, 0]
+    );
     Ok(())
 }

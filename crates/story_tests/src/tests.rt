@@ -16,7 +16,9 @@ fn the_example_is_played(rt: HostRuntime) -> Result<(), Fail> {
     };
     assert_eq!(rt; answers.len(), 6);
     let read = b"\x02\x01\x00\x0C\xE2\x20\xA8\x39\x7B\x1D\xCD\xAF";
-    assert!(rt; matches!(&answers[4], OwnedAnswer::Bytes(bytes) if bytes.as_slice() == read.as_slice()));
+    assert!(rt;
+        matches!(&answers[4], OwnedAnswer::Bytes(bytes) if bytes.as_slice() == read.as_slice())
+    );
     assert!(rt; answers[5] == OwnedAnswer::Refused(NetworkFault::SlotFree));
     Ok(())
 }
