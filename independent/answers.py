@@ -10,6 +10,7 @@ from itertools import groupby
 sys.dont_write_bytecode = True
 
 from bitmaps import lowest_zero
+from fields import BadLine, number, octets
 from frames import shown
 from kinds import NotWritten, Refused
 from least import LEAST
@@ -23,17 +24,7 @@ MOST_TENANTS = 4096
 MOST_ROOM = 2100
 
 
-class BadLine(Exception):
-    pass
-
-
 # The fields of a line.
-
-def number(text):
-    if not re.fullmatch("0|[1-9][0-9]*", text) or int(text) >= WORD:
-        raise BadLine
-    return int(text)
-
 
 def up_to(most, text):
     value = number(text)
@@ -46,14 +37,6 @@ def word(text):
     if not re.fullmatch("[0-9A-F]{16}", text):
         raise BadLine
     return int(text, 16)
-
-
-def octets(text):
-    if text == "-":
-        return b""
-    if not re.fullmatch("(?:[0-9A-F]{2})+", text):
-        raise BadLine
-    return bytes.fromhex(text)
 
 
 def form(kind, text):

@@ -1,11 +1,21 @@
-"""Figures that were published, or worked out apart from this code, and the comparison with them."""
+"""Figures that were published, or worked out apart from this code, and the comparison with them.
+
+    python3 independent/figures.py            compares all of them
+"""
 
 import sys
 
+sys.dont_write_bytecode = True
+
 from answers import answer
 from bitmaps import root
+from draws import item_with
+from kinds import NotWritten
 from least import LeastValues
-from pair import KINDS
+from page import page, usage
+from pair import KINDS, PILE
+from readings import WORD, Reading
+from script import printed
 
 ONE_BIT = "01400104" + "00" * 3 + "01" + "00" * 252
 HALF_WAY = "02400204" + "".join(f"7FFFFFFF{low:08X}" for low in range(64))
@@ -36,12 +46,67 @@ class TwoLeast(LeastValues):
     most = 2
 
 
+# the item whose hash is the third output for the seed 1234567, which ends in binary 01110111: its mark is 55, 0
+THIRD = (1234567 + 2 * 0x9E3779B97F4A7C15) % WORD
+
+# readings, and the page of their pile
+EMPTY_PAGE = "0000" "0003" "0020" "0020" + "00" * 24
+PAGES = [
+    ([], EMPTY_PAGE),
+    # a bit above the lowest is set: S is 0, and the bitmaps nonetheless estimate 64 * 100000 div 77351
+    ([Reading(7, 0, 500)],
+     "0001" "0003" "0020" "002E" "0000000000000052" "0000000000000001" "00000000" "00000001"
+     "00000007" "0001" "00000000000001F4"),
+    # one item with two amounts, the greatest amount, the greatest tenant and the mark 0, 31
+    ([Reading(7, 0, 900), Reading(2**32 - 1, item_with(0), 0), Reading(1, THIRD, 2**64 - 1), Reading(7, 0, 500)],
+     "0003" "0003" "0020" "004A" "0000000000000052" "0000000000000003" "00000001" "00000003"
+     "00000001" "0001" "FFFFFFFFFFFFFFFF" "00000007" "0002" "0000000000000384" "FFFFFFFF" "0001" "0000000000000000"),
+    # the same reading twice, and the same item and amount under another tenant
+    ([Reading(8, 0, 5), Reading(8, 0, 5), Reading(0, 0, 5)],
+     "0002" "0003" "0020" "003C" "0000000000000052" "0000000000000001" "00000000" "00000001"
+     "00000000" "0001" "0000000000000005" "00000008" "0001" "0000000000000005"),
+]
+
+# the script of the rules, and what it prints
+WORKED = b"""o v 2
+g 0 7 0 500
+s 0 3
+g 0 7 9 900
+d 3 1
+r 1
+d 4 1
+"""
+WORKED_PRINTS = """1 ok
+2 ok
+3 ok
+4 ok
+5 ok
+6 0201000CE220A8397B1DCDAF
+7 no 6
+"""
+
+
+def into_room(size):
+    """What becomes of a room of this many bytes when the empty pile's page is written into it."""
+    try:
+        end, room = usage(PILE.empty, b"x" * size)
+    except NotWritten as fault:
+        return fault.number
+    return end, room.hex().upper()
+
+
 # other figures: a name, what the rules here give, what is known
 OTHERS = [
     ("t for j = 0, 3, 7", [root(j + 48) for j in (0, 3, 7)], [64, 82, 117]),
     ("the 2-union of 1, 3 and 2, 3", TwoLeast().join([1, 3], [2, 3]), [1, 2]),
     ("the standard pile's greatest length", KINDS["p"].greatest, 1432),
     ("four samples in three pairs", KINDS["o"].sum, 2594),
+    ("the script of the rules", printed(WORKED), WORKED_PRINTS.splitlines()),
+    ("the script with no last byte 10", printed(WORKED[:-1]), WORKED_PRINTS.splitlines()),
+    ("a script with no bytes", printed(b""), []),
+    ("a page into too little room", into_room(479), 26),
+    ("a page into a room", into_room(480), (32, EMPTY_PAGE + "78" * 448)),
+    *((f"the page of {readings}", page(PILE.join_all(readings)).hex().upper(), known) for readings, known in PAGES),
 ]
 
 
@@ -50,3 +115,8 @@ def check_figures():
     for name, given, figure in found + OTHERS:
         if given != figure:
             sys.exit(f"{name} gives {given!r}, and not the figure {figure!r}")
+
+
+if __name__ == "__main__":
+    check_figures()
+    print(f"{len(LINES) + len(OTHERS)} figures agree")

@@ -1,4 +1,4 @@
-"""The lists of turns, by kind and sort."""
+"""The lists of turns, by kind and sort. What is drawn is told apart by numbers."""
 
 from common_cases import frame_like
 from draws import run_like
@@ -9,8 +9,8 @@ from pair import KINDS
 from turnlines import ROOM
 
 
-def few_node_lists(letter, count):
-    for i in range(count):
+def few_node_lists(letter, numbers):
+    for i in numbers:
         draws = draws_of(letter, f"few nodes {i}")
         maker = Maker(letter, f"few {i}", 1 + draws.below(4), 1 + draws.below(3), 2 + draws.below(5),
                       "gggassssdddddxxrr")
@@ -19,9 +19,9 @@ def few_node_lists(letter, count):
         yield maker.run_line()
 
 
-def refill_lists(letter, count):
+def refill_lists(letter, numbers):
     """One slot that is filled, delivered more than once, dropped and filled again."""
-    for i in range(count):
+    for i in numbers:
         draws = draws_of(letter, f"refills {i}")
         maker = Maker(letter, f"refill {i}", 2 + draws.below(2), 1, 6, "ggssddddxxr", odd=4)
         maker.draw(8 + draws.below(32))
@@ -29,9 +29,9 @@ def refill_lists(letter, count):
         yield maker.run_line()
 
 
-def chain_lists(letter, count):
+def chain_lists(letter, numbers):
     """What a first node was told goes from node to node, with other turns between."""
-    for i in range(count):
+    for i in numbers:
         draws = draws_of(letter, f"chains {i}")
         maker = Maker(letter, f"chain {i}", 3 + draws.below(14), 1 + draws.below(4), 5, "gsddx", odd=6)
         path = maker.draws.some(range(maker.nodes), 3 + draws.below(maker.nodes - 2))
@@ -49,9 +49,9 @@ def chain_lists(letter, count):
         yield maker.run_line()
 
 
-def stale_lists(letter, count):
+def stale_lists(letter, numbers):
     """A slot is delivered long after, when its sender holds more than it sent."""
-    for i in range(count):
+    for i in numbers:
         draws = draws_of(letter, f"stale {i}")
         maker = Maker(letter, f"stale {i}", 2 + draws.below(3), 3, 8, "ggggad", odd=3)
         maker.draw(1 + draws.below(3))
@@ -64,8 +64,8 @@ def stale_lists(letter, count):
         yield maker.run_line()
 
 
-def refusal_lists(letter, count):
-    for i in range(count):
+def refusal_lists(letter, numbers):
+    for i in numbers:
         draws = draws_of(letter, f"refusals {i}")
         maker = Maker(letter, f"refusal {i}", 1 + draws.below(16), 2, 3, "gasdddxrs", odd=220)
         maker.draw(5 + draws.below(16))
@@ -73,8 +73,8 @@ def refusal_lists(letter, count):
         yield maker.run_line()
 
 
-def frame_lists(letter, count):
-    for i in range(count):
+def frame_lists(letter, numbers):
+    for i in numbers:
         draws = draws_of(letter, f"arrivals {i}")
         maker = Maker(letter, f"arrival {i}", 1 + draws.below(3), 1, 6, "aaag", odd=150)
         maker.draw(5 + draws.below(8))
@@ -82,8 +82,8 @@ def frame_lists(letter, count):
         yield maker.run_line()
 
 
-def room_lists(letter, count):
-    for i in range(count):
+def room_lists(letter, numbers):
+    for i in numbers:
         draws = draws_of(letter, f"rooms {i}")
         maker = Maker(letter, f"room {i}", 1 + draws.below(2), 1, 5, "grrrrasd", odd=120)
         maker.draw(5 + draws.below(9))
@@ -104,9 +104,9 @@ def open_lists(letter, counts, memories):
     yield f"{letter} run 16 18446744073709551615 18446744073709551615;r 15;r 16;s 15 31;d 31 0"
 
 
-def one_by_one_lists(letter, count):
+def one_by_one_lists(letter, numbers):
     """Calls before any OPEN, and OPENs again and again, some refused."""
-    for i in range(count):
+    for i in numbers:
         draws = draws_of(letter, f"each {i}")
         maker = Maker(letter, f"each {i}", 1 + draws.below(4), 2, 4, "oggasssdddxxrr", odd=40,
                       opened=False)
@@ -126,9 +126,9 @@ def full_frames(letter, i):
             yield frame_like(KINDS[letter], f"{letter} full {i} {at}", count)
 
 
-def full_lists(letter, count):
+def full_lists(letter, numbers):
     """Runs that are full, and joined."""
-    for i in range(count):
+    for i in numbers:
         maker = Maker(letter, f"full {i}", 3, 2, 10, "gsdx", odd=5)
         a, b = maker.slots
         for node, frame in enumerate(full_frames(letter, i)):
@@ -214,16 +214,16 @@ ALL_COUNTS = [*range(20), 255, 256, 2**32, ALL]
 def sorts_of(letter, few, refill, chain, stale, refusal, frame, room, each, full, step, opens, long):
     """The sorts of a kind's lists, with how many there are of each."""
     return {
-        "few nodes and few slots": lambda: few_node_lists(letter, few),
-        "one slot, filled over and over": lambda: refill_lists(letter, refill),
-        "from node to node": lambda: chain_lists(letter, chain),
-        "delivered late": lambda: stale_lists(letter, stale),
-        "many refusals": lambda: refusal_lists(letter, refusal),
-        "frames that arrive": lambda: frame_lists(letter, frame),
-        "rooms around the length": lambda: room_lists(letter, room),
+        "few nodes and few slots": lambda: few_node_lists(letter, range(few)),
+        "one slot, filled over and over": lambda: refill_lists(letter, range(refill)),
+        "from node to node": lambda: chain_lists(letter, range(chain)),
+        "delivered late": lambda: stale_lists(letter, range(stale)),
+        "many refusals": lambda: refusal_lists(letter, range(refusal)),
+        "frames that arrive": lambda: frame_lists(letter, range(frame)),
+        "rooms around the length": lambda: room_lists(letter, range(room)),
         "OPENs": lambda: open_lists(letter, *opens),
-        "one by one, OPENs among them": lambda: one_by_one_lists(letter, each),
-        "runs that are full": lambda: full_lists(letter, full),
+        "one by one, OPENs among them": lambda: one_by_one_lists(letter, range(each)),
+        "runs that are full": lambda: full_lists(letter, range(full)),
         "frames of other kinds": lambda: other_kind_lists(letter),
         "every damage": lambda: damage_lists(letter, step),
         "long lists that are made as they go": lambda: long_lists(letter, long),

@@ -1,8 +1,9 @@
 """Long lists that are made as they go: turn i is told by output i of SplitMix64."""
 
+from fields import BadLine
 from network import ALL, MEMORY, Arrive, ByState, Deliver, Drop, Generate, Open, Read, Send, Turn
 from readings import WORD, Reading, hash_of
-from turnlines import BYTES, ROOM, VALUES, BadLine
+from turnlines import BYTES, ROOM, VALUES
 
 LONG_NODES = 7
 

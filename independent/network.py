@@ -84,14 +84,21 @@ class Rules:
         except Refused as fault:
             raise No(fault.number, fault.place, fault.kind) from None
 
-    def answer(self, turn):
+    def make(self, turn):
+        """Makes a turn, and gives its answer or raises its refusal."""
         try:
             found = self.answer_to(turn)
-        except No as refusal:
+        except No:
             self.note(turn.call, False)
-            return str(refusal)
+            raise
         self.note(turn.call, True)
         return found
+
+    def answer(self, turn):
+        try:
+            return self.make(turn)
+        except No as refusal:
+            return str(refusal)
 
     def answer_to(self, turn):
         call = turn.call
@@ -210,6 +217,15 @@ class ByPaths(Rules):
         return form
 
 
+def compare(state, paths):
+    """Stops where the two ways do not agree on all nodes and slots."""
+    assert state.count() == paths.count()
+    for node in range(state.count()):
+        assert state.form_at(node) == paths.form_at(node), node
+    for slot in range(SLOTS):
+        assert state.is_filled(slot) == paths.is_filled(slot), slot
+
+
 def answers(kind, values, memory, turns):
     """What the turns answer, after both ways were seen to agree on each and on all nodes."""
     state, paths = ByState(kind, values, memory), ByPaths(kind, values, memory)
@@ -218,9 +234,5 @@ def answers(kind, values, memory, turns):
         one, other = state.answer(turn), paths.answer(turn)
         assert one == other, (turn, one, other)
         found.append(one)
-    assert state.count() == paths.count()
-    for node in range(state.count()):
-        assert state.form_at(node) == paths.form_at(node), node
-    for slot in range(SLOTS):
-        assert state.is_filled(slot) == paths.is_filled(slot), slot
+    compare(state, paths)
     return found

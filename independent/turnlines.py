@@ -1,5 +1,6 @@
 """Turns as a list writes them, and read again."""
 
+from fields import BadLine, number, octets
 from network import ALL, Arrive, Deliver, Drop, Generate, Open, Read, Send, Turn
 
 # how many values and bytes the program has for every list
@@ -13,10 +14,6 @@ LETTERS = {"o": Open, "g": Generate, "a": Arrive, "s": Send, "d": Deliver, "x": 
 NAMES = {sort: letter for letter, sort in LETTERS.items()}
 
 
-class BadLine(Exception):
-    """A line that is of no form."""
-
-
 def written(turn):
     call = turn.call
     fields = [NAMES[type(call)]]
@@ -27,21 +24,6 @@ def written(turn):
             fields.append(str(value))
     front = "" if turn[1:] == (ALL, ALL) else f"@{turn.values},{turn.memory} "
     return front + " ".join(fields)
-
-
-def number(text, below=2**64):
-    good = text.isascii() and text.isdigit() and (text == "0" or text[0] != "0")
-    if not good or int(text) >= below:
-        raise BadLine
-    return int(text)
-
-
-def frame_bytes(text):
-    if text == "-":
-        return b""
-    if not text or len(text) % 2 or set(text) - set("0123456789ABCDEF"):
-        raise BadLine
-    return bytes.fromhex(text)
 
 
 def turn_of(text):
@@ -59,7 +41,7 @@ def turn_of(text):
     if sort is None or len(fields) != len(sort._fields):
         raise BadLine
     if sort is Arrive:
-        return Turn(Arrive(number(fields[0]), frame_bytes(fields[1])), values, memory)
+        return Turn(Arrive(number(fields[0]), octets(fields[1])), values, memory)
     limits = {"tenant": 2**32}
     parts = [number(f, limits.get(name, 2**64)) for name, f in zip(sort._fields, fields)]
     return Turn(sort(*parts), values, memory)

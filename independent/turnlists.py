@@ -11,12 +11,13 @@ from pathlib import Path
 
 sys.dont_write_bytecode = True
 
+from fields import BadLine, number
 from lists import SORTS
 from longlists import long_answer
 from network import Open, Turn, answers
 from pair import KINDS
 from stored import write_or_compare
-from turnlines import BYTES, LETTERS, VALUES, BadLine, number, turn_of
+from turnlines import BYTES, LETTERS, VALUES, turn_of
 
 FOLDER = Path(__file__).resolve().parent.parent / "crates" / "kind_lists"
 
