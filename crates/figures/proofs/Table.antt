@@ -31,5 +31,6 @@ table = record {
   roots = (refl, refl, refl);
   sum_of_one = of_one;
   pile_greatest = refl;
+  page_of_one = refl;
   four_overlong = refl;
 }

@@ -10,6 +10,7 @@ use Rattle.bitmaps.specs.Bitmaps.{bitmaps_kind, lowest_zero, eighth_root, none_s
 use Rattle.bitmaps.specs.Bitmaps as bitmaps
 use Rattle.sample.specs.Sample.{sample_kind}
 use Rattle.layers.specs.Pairs.{pair_kind}
+use Rattle.usage.specs.Pages.{page_of}
 
 -- a reading of client 0
 abbrev pub of_client_0 : Reading
@@ -36,4 +37,5 @@ pub record Figures : Type 0 where
   pub roots : (eighth_root 0 ≡ 64) × (eighth_root 3 ≡ 82) × (eighth_root 7 ≡ 117)
   pub sum_of_one : (maps : List ℕ) → none_set maps ≡ false → sum_of maps ≡ 1 → bitmaps.estimate_of maps ≡ 82
   pub pile_greatest : standard_pile.greatest ≡ 1432
+  pub page_of_one : page_of (standard_pile.single of_client_0) ≡ 0x00 ∷ 0x01 ∷ 0x00 ∷ 0x03 ∷ 0x00 ∷ 0x20 ∷ 0x00 ∷ 0x2E ∷ 0x00 ∷ 0x00 ∷ 0x00 ∷ 0x00 ∷ 0x00 ∷ 0x00 ∷ 0x00 ∷ 0x52 ∷ 0x00 ∷ 0x00 ∷ 0x00 ∷ 0x00 ∷ 0x00 ∷ 0x00 ∷ 0x00 ∷ 0x01 ∷ 0x00 ∷ 0x00 ∷ 0x00 ∷ 0x00 ∷ 0x00 ∷ 0x00 ∷ 0x00 ∷ 0x01 ∷ 0x00 ∷ 0x00 ∷ 0x00 ∷ 0x07 ∷ 0x00 ∷ 0x01 ∷ 0x00 ∷ 0x00 ∷ 0x00 ∷ 0x00 ∷ 0x00 ∷ 0x00 ∷ 0x01 ∷ 0xF4 ∷ []
   pub four_overlong : overlong four_samples ≡ true

@@ -1,2 +1,3 @@
 pub mod Figures
 pub mod Example
+pub mod Scripts

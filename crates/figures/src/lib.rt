@@ -4,6 +4,7 @@
 ghost use Rattle.std.specs.Prelude.{◌≡◌, [], ◌∷◌};
 ghost use Rattle.figures.specs.Example.{Example};
 ghost use Rattle.figures.specs.Figures.{Figures};
+ghost use Rattle.figures.specs.Scripts.{WorkedScript};
 
 use bitmaps::zeros::lowest_zero;
 use pile::greatest_lengths;
@@ -21,11 +22,13 @@ pub struct Computed {
     pub lengths: (usize, usize),
 }
 
-// The calls give the table's numbers, and the definitions give all of them, and the answers of the worked turns.
+/// The calls give the table's numbers, and the definitions give all of them, the answers of the worked turns, and the output of
+/// the worked script.
 pub fn figures() -> Computed
     ensures calls { result ≡ record { hash_of_0 = 0xE220A8397B1DCDAF; mark_of_that = (47, 1); mark_of_0 = (0, 31); two_least = 1 ∷ 2 ∷ []; lowest_zeros = 0 ∷ 3 ∷ 32 ∷ []; lengths = (1432, 2049) } }
     ensures definitions { Figures }
     ensures example { Example }
+    ensures script { WorkedScript }
 {
     let mut two_least = [0; 2];
     let _ = union(&[1, 3], &[2, 3], &mut two_least);

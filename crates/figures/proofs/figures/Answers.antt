@@ -3,6 +3,7 @@ use Rattle.std.proofs.lemmas.List.{take_all}
 use Rattle.readings.specs.Readings.{mark_of}
 use Rattle.figures.proofs.Table.{table}
 use Rattle.figures.proofs.Worked.{worked}
+use Rattle.figures.proofs.Scripted.{worked_script}
 use Rattle.figures.proofs.figures.Goals as goal
 
 pub returns : goal.returns
@@ -27,4 +28,5 @@ returns c =
       };
       definitions = table;
       example = worked;
+      script = worked_script;
     }
