@@ -1,5 +1,6 @@
 ghost use Rattle.std.specs.Prelude.{◌≡◌, Some};
-ghost use Rattle.script.specs.Faults.{line_number, line_text, reason_number, reason_text, fault_text, of_line, of_network};
+ghost use Rattle.script.specs.Faults.{line_number, line_text, reason_number, reason_at, reason_text, fault_text, of_line, of_network};
+ghost use Rattle.network.specs.Faults.{fault_at};
 
 use network::fault::NetworkFault;
 use std::error::Error;
@@ -58,15 +59,36 @@ impl ScriptReason {
             ScriptReason::Network(fault) => fault.number(),
         }
     }
+
+    /// Of bytes that are no frame, at which of them it shows, and the number of the kind that refused them.
+    pub fn at(self) -> Option<(usize, u8)>
+        ensures { result ≡ reason_at self }
+    {
+        match self {
+            ScriptReason::Line(_) => None,
+            ScriptReason::Network(fault) => place_of(fault),
+        }
+    }
+}
+
+// The same of a network's refusal.
+fn place_of(fault: NetworkFault) -> Option<(usize, u8)>
+    ensures { result ≡ fault_at fault }
+{
+    match fault {
+        NetworkFault::Synopsis(fault) => Some((fault.place, fault.kind)),
+        _ => None,
+    }
 }
 
 impl fmt::Display for ScriptReason {
     ghost output = { λ e. Some (reason_text e) };
 
     fn fmt<W: fmt::Write>(&self, f: &mut fmt::Formatter<W>) -> fmt::Result {
-        match self {
-            ScriptReason::Line(fault) => write!(f, "{fault}"),
-            ScriptReason::Network(fault) => write!(f, "{fault}"),
+        let number = self.number();
+        match self.at() {
+            Some((place, kind)) => write!(f, "no {number} {place} {kind}"),
+            None => write!(f, "no {number}"),
         }
     }
 }
@@ -111,7 +133,7 @@ impl fmt::Display for ScriptFault {
     ghost output = { λ e. Some (fault_text e) };
 
     fn fmt<W: fmt::Write>(&self, f: &mut fmt::Formatter<W>) -> fmt::Result {
-        write!(f, "line {}: {}", self.line, self.why)
+        write!(f, "{} {}", self.line, self.why)
     }
 }
 

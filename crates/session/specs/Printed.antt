@@ -1,15 +1,11 @@
 -- What is printed for the bytes of an input.
-use Rattle.std.specs.Prelude.{ℕ, ◌+◌, cond, List, [], ◌∷◌, ◌++◌, None, Some, Option, codes, length, nat_lt}
+use Rattle.std.specs.Prelude.{ℕ, ◌+◌, cond, List, [], ◌∷◌, ◌++◌, codes, length, nat_lt}
 use Rattle.std.specs.Fmt.{decimal}
 use Rattle.hex.specs.Hex.{encode_upper}
+use Rattle.script.specs.Faults.{where_text}
 use Rattle.diffusion.specs.Turns.{Told, done, bytes, refused}
 use Rattle.script.specs.Lines.{lines}
 use Rattle.session.specs.Standing.{closed, answers}
-
--- a refusal's place and kind, where it has them
-abbrev pub where_text : Option (ℕ × ℕ) → List ℕ
-where_text None = []
-where_text (Some at) = codes " " ++ decimal at.0 ++ codes " " ++ decimal at.1
 
 -- an answer: ok, bytes as capital hex pairs, or no and the number
 abbrev pub told_text : Told → List ℕ

@@ -1,14 +1,14 @@
 // What a line is answered, and the line of output that says so.
-ghost use Rattle.std.specs.Prelude.{◌≡◌, Some, OnOk};
-ghost use Rattle.diffusion.specs.Turns.{tells, refusal};
+ghost use Rattle.std.specs.Prelude.{◌≡◌, Some, IfSome, OnOk};
+ghost use Rattle.diffusion.specs.Turns.{tells};
+ghost use Rattle.script.specs.Faults.{reason_text};
 ghost use Rattle.session.specs.Answers.{said_tells};
 ghost use Rattle.session.specs.Printed.{told_text, line_text};
 
-use script::fault::LineFault;
 use arrayvec::ArrayString;
 use diffusion::answer::Answer;
 use diffusion::listener::Listener;
-use network::fault::NetworkFault;
+use script::fault::{LineFault, ScriptFault, ScriptReason};
 use std::fmt::{self, Write};
 use texts::shown::Pairs;
 
@@ -24,20 +24,15 @@ pub enum Said<'a> {
     Bad(LineFault),
 }
 
-// A refusal by a network.
-#[derive(Clone, Copy)]
-struct No(NetworkFault);
-
-impl fmt::Display for No {
-    ghost output = { λ e. Some (told_text (refusal e.0)) };
-
-    fn fmt<W: fmt::Write>(&self, f: &mut fmt::Formatter<W>) -> fmt::Result {
-        let number = self.0.number();
-        match self.0 {
-            NetworkFault::Synopsis(fault) => {
-                write!(f, "no {number} {} {}", fault.place, fault.kind)
-            }
-            _ => write!(f, "no {number}"),
+impl Said<'_> {
+    // Why the line is refused, if it is.
+    fn refusal(&self) -> Option<ScriptReason>
+        ensures { IfSome result (λ why. told_text (said_tells self.now) ≡ reason_text why) }
+    {
+        match self {
+            Said::Told(Answer::Refused(fault)) => Some(ScriptReason::from(*fault)),
+            Said::Told(_) => None,
+            Said::Bad(fault) => Some(ScriptReason::from(*fault)),
         }
     }
 }
@@ -49,11 +44,8 @@ impl fmt::Display for Said<'_> {
         match self {
             Said::Told(Answer::Done) => f.write_str("ok"),
             Said::Told(Answer::Bytes(bytes)) => Pairs(bytes).fmt(f),
-            Said::Told(Answer::Refused(fault)) => No(*fault).fmt(f),
-            Said::Bad(fault) => {
-                let number = fault.number();
-                write!(f, "no {number}")
-            }
+            Said::Told(Answer::Refused(fault)) => ScriptReason::from(*fault).fmt(f),
+            Said::Bad(fault) => ScriptReason::from(*fault).fmt(f),
         }
     }
 }
@@ -83,6 +75,10 @@ impl OutputLine {
     {
         let number = self.number;
         self.text.clear();
+        if let Some(why) = said.refusal() {
+            let fault = ScriptFault { line: number, why };
+            return write!(self.text, "{fault}\n");
+        }
         write!(self.text, "{number} {said}\n")
     }
 }

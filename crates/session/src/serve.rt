@@ -12,8 +12,6 @@ ghost use Rattle.session.specs.Printed.{line_text};
 ghost use Rattle.session.specs.Writing.{Wrote};
 
 use crate::answer::{OutputLine, Said};
-use script::ask::{Ask, Stage, read_line};
-use script::fault::LineFault;
 use crate::paged::Paged;
 use crate::put::put;
 use diffusion::answer::Answer;
@@ -22,6 +20,8 @@ use histories::Turn;
 use network::calls::MEMORY;
 use network::fault::NetworkFault;
 use network::table::{NODES, Network};
+use script::ask::{Ask, Stage, read_line};
+use script::fault::LineFault;
 use std::fmt;
 use std::io::{self, ErrorKind, Write};
 use synopsis::kind::LONGEST;
