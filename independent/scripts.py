@@ -14,15 +14,25 @@ sys.dont_write_bytecode = True
 import figures
 from script import FIELDS, lines_of, printed
 from scriptsorts import all_scripts
-from stored import write_or_compare
+from stored import stored, write_or_compare
 
-FOLDER = Path(__file__).resolve().parent.parent / "crates" / "script_runs"
+TOP = Path(__file__).resolve().parent.parent
+FOLDER = TOP / "crates" / "script_runs"
+EXAMPLES = TOP / "examples"
 
 # the refusals that a script can show
 POSSIBLE = [1, 4, 5, 6, 7, *range(9, 15), *range(20, 26)]
 
 # the line behind what a script prints
 END = "--"
+
+
+def examples():
+    """The scripts of the examples, in the order of their names, each of which prints what stands beside it."""
+    scripts = [path.read_bytes() for path in sorted(EXAMPLES.glob("*.script"))]
+    outputs = [path.read_bytes() for path in sorted(EXAMPLES.glob("*.out"))]
+    assert [stored(printed(script)) for script in scripts] == outputs, "an example prints something else"
+    return scripts
 
 
 def put_together(scripts):
@@ -59,7 +69,7 @@ def by_numbers(counted):
 
 def main(arguments):
     figures.check_figures()
-    by_sort = all_scripts()
+    by_sort = {**all_scripts(), ("", "examples"): examples()}
     scripts = [script for found in by_sort.values() for script in found]
     outputs = [printed(script) for script in scripts]
     made = {"stdin": put_together(scripts), "stdout": [line for output in outputs for line in [*output, END]]}
