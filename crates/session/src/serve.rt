@@ -103,7 +103,8 @@ fn answer_line<S: Paged>(
 }
 
 /// Serves one line on an open network: makes the call that it asks for, and writes one line of output with this number. The
-/// line comes without the byte 10 that ends it. An error is the writer's alone; the call is made all the same.
+/// line comes without the byte 10 that ends it. After an error a front part of the output line was written; the call is made
+/// all the same.
 pub fn serve_line<S: Paged, W: Write>(
     network: &mut Network,
     values: &mut [S],

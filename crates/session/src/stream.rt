@@ -24,8 +24,8 @@ fn fill<R: Read>(reader: &mut R, buffer: &mut [u8]) -> io::Result<usize>
 }
 
 /// Replays the script that a reader has: what is appended to the writer is what is printed for the bytes that the reader had
-/// left. It reads at most 65,537 of them, and writes each line of output before it serves the next. After an error of the
-/// reader or the writer, which are the only ones, a front part of that was written.
+/// left. It reads at most 65,537 of them, and writes each line of output before it serves the next. After an error a front part
+/// of that was written.
 pub fn replay<R: Read, W: Write>(reader: &mut R, writer: &mut W) -> io::Result<()>
     ensures printed { IfSome (R.remaining reader.old) (λ input. Wrote result (W.contents writer.old) (W.contents writer.new) (printed input)) }
     ensures laws { ScriptLaws }
