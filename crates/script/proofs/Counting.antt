@@ -1,7 +1,7 @@
 -- Numbers, digit by digit.
-use Rattle.std.proofs.Common.{◌≡◌, ℕ, ◌+◌, ◌-◌, ◌*◌, ◌<◌, ◌≤◌, ◌^◌, List, [], ◌∷◌, length, drop, get_or, None, Some, sym, ap, ◌∙◌, arith, nat_lt}
-use Rattle.std.proofs.lemmas.Bool.{cond-true, cond-false, lt-ltb, le-ltb}
-use Rattle.std.proofs.lemmas.List.{drop_more, drop_all}
+use Rattle.std.proofs.Common.{◌≡◌, ℕ, ◌+◌, ◌-◌, ◌*◌, ◌<◌, ◌≤◌, ◌^◌, List, [], ◌∷◌, length, drop, get_or, None, sym, ap, ◌∙◌, arith, nat_lt}
+use Rattle.std.proofs.lemmas.Bool.{cond-false, le-ltb}
+use Rattle.std.proofs.lemmas.List.{drop_more}
 use Rattle.script.specs.Fields.{value_after, value, fitting}
 
 -- no digit makes a number less
@@ -10,7 +10,7 @@ grown n [] = omega arith
 grown n (b ∷ rest) = omega (arith, grown (10 * n + (b - 48)) rest)
 
 -- one digit more of them is read
-pub one_more : (digits : List ℕ) (n i : ℕ) → i < length digits → value_after n (drop i digits) ≡ value digits → value_after (10 * n + (get_or digits i 0 - 48)) (drop (i + 1) digits) ≡ value digits
+one_more : (digits : List ℕ) (n i : ℕ) → i < length digits → value_after n (drop i digits) ≡ value digits → value_after (10 * n + (get_or digits i 0 - 48)) (drop (i + 1) digits) ≡ value digits
 one_more digits n i lt e = ap (value_after n) (sym (drop_more digits i 0 lt)) ∙ e
 
 -- what is too great after some digits is so after all of them
@@ -19,9 +19,3 @@ too_great digits n i lt e large =
     let all = one_more digits n i lt e in
     let most = grown (10 * n + (get_or digits i 0 - 48)) (drop (i + 1) digits) in
     sym (cond-false (nat_lt (value digits) (2 ^ 64)) _ _ (le-ltb (value digits) (2 ^ 64) (omega (arith, all, most, large))))
-
--- all digits are read
-pub all_read : (digits : List ℕ) (n i : ℕ) → length digits ≤ i → value_after n (drop i digits) ≡ value digits → n < 2 ^ 64 → Some n ≡ fitting (value digits)
-all_read digits n i le e fits =
-    let same : n ≡ value digits = ap (value_after n) (sym (drop_all i digits le)) ∙ e in
-    ap Some same ∙ sym (cond-true (nat_lt (value digits) (2 ^ 64)) _ _ (lt-ltb (value digits) (2 ^ 64) (omega (arith, same, fits))))
