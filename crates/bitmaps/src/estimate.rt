@@ -21,14 +21,15 @@ fn scale(t: u64, w: u32) -> u64
 }
 
 impl Bitmaps {
-    // S: the sum of R over the maps.
+    /// S: the sum of R, the position of the lowest zero bit, over the maps; 2,048 at most.
     pub fn sum(&self) -> u32
         ensures { result ≡ sum_of (bitmaps_form self.now).each }
     {
         sum_of_zeros(&self.maps)
     }
 
-    // How many different readings the maps tell of.
+    /// An estimate of how many different hashes were seen; 0 where no bit is set. The formula is meant for many: one hash
+    /// is estimated as 82.
     pub fn estimate(&self) -> u64
         ensures value { result ≡ estimate_of (bitmaps_form self.now).each }
         ensures roots { (j : ℕ) → j < 8 → EighthRoot j (eighth_root j) }

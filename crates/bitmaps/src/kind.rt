@@ -16,7 +16,6 @@ fn bit(rank: u32) -> u32
     1 << rank
 }
 
-// Each kind has these calls of its own; bitmaps are no row, since all their places are in use and in no order.
 impl Synopsis for Bitmaps {
     const NUMBER: u8 = 1;
 
@@ -41,13 +40,12 @@ impl Synopsis for Bitmaps {
     fn make(reading: Reading) -> Self {
         let (bucket, rank) = mark(reading.hash());
         let mut maps = [0; 64];
-        // By `as`: a bucket is below 64, and `usize` has no `From<u32>`.
         maps[bucket as usize] = bit(rank);
         Bitmaps { maps }
     }
 
     fn fuse(&mut self, other: &Self) {
-        // By index: after a loop over `iter_mut().zip(..)` a proof knows nothing of what was written.
+        // By index: the proof needs it (docs/DECISIONS.md).
         for (i, theirs) in other.maps.iter().enumerate() {
             self.maps[i] |= *theirs;
         }

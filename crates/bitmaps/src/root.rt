@@ -7,8 +7,7 @@ pub(crate) fn eighth_root(j: u32) -> u64
     ensures { EighthRoot j result }
 {
     let most: u64 = 1 << (j + 48);
-    // A search up from 64, at most some fifty steps, as the rule of t reads; as a chain, `take_while(..).last()`, or by three
-    // `isqrt` it is no plainer, since neither shows the rule.
+    // A search up from 64, the root for j = 0.
     let mut t: u64 = 64;
     while (t + 1).pow(8) <= most {
         t += 1;

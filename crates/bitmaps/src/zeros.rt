@@ -1,7 +1,7 @@
 ghost use Rattle.std.specs.Prelude.{◌≡◌, ◌≤◌, length};
 ghost use Rattle.bitmaps.specs.Bitmaps.{lowest_zero, LowestZero, sum_of};
 
-// R: the position of the lowest zero bit of a map, 32 if there is none. So many ones stand below it.
+/// R: the position of the lowest zero bit of a map, 32 if there is none.
 pub fn lowest_zero(map: u32) -> u32
     ensures value { result ≡ lowest_zero map }
     ensures lowest { LowestZero 32 map result }
@@ -9,7 +9,7 @@ pub fn lowest_zero(map: u32) -> u32
     map.trailing_ones()
 }
 
-// S: the sum of R over the maps in turn. By a loop over the lent slice, as the rule of S asks.
+// S: the sum of R over the maps in turn.
 pub(crate) fn sum_of_zeros(maps: &[u32]) -> u32
     requires { length maps.now ≤ 64 }
     ensures { result ≡ sum_of maps.now }

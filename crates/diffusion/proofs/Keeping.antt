@@ -7,9 +7,9 @@ use Rattle.synopsis.specs.Kind.{Kind, Laws, overlong}
 use Rattle.histories.specs.declared.Call.{Call}
 use Rattle.histories.specs.declared.Call.TheVariants.{Generate, Arrive, Send, Deliver, Drop, Read}
 use Rattle.histories.specs.declared.Turn.{Turn}
-use Rattle.histories.specs.Deeds.{Deed, gave, sent, delivered, dropped, nothing, reading, frame, deed, History}
+use Rattle.histories.specs.Deeds.{Deed, contributed, sent, delivered, dropped, nothing, reading, frame, deed, History}
 use Rattle.histories.specs.Search.{filled, Sound}
-use Rattle.histories.specs.Folds.{read_as, gift_form, node_form, slot_form}
+use Rattle.histories.specs.Folds.{read_as, contribution_form, node_form, slot_form}
 use Rattle.histories.proofs.Folding.{gave_here, gave_else, gave_slot, sent_here, sent_else, delivered_here, delivered_else, dropped_else}
 use Rattle.network.specs.declared.fault.NetworkFault.{NetworkFault}
 use Rattle.network.specs.declared.slot.Filled.{Filled}
@@ -299,11 +299,11 @@ module _ (k : Kind) (laws : Laws k) (nodes : ℕ) (h : History) (st : State k) (
   call_holds : (c : Call) → is_accepted (call_owes k nodes h c) ≡ true → Holding k nodes (deed c true ∷ h) (call_leaves k st c)
   call_holds (Generate n r) q =
       let a = node_passed n done q in
-      fused_holds (gave n (reading r)) n (k.single r) a.0 on.sound (gave_here k h n (reading r)) (λ i apart. gave_else k h n i (reading r) apart) (λ s. refl) (λ s. gave_slot k h n (reading r) s)
+      fused_holds (contributed n (reading r)) n (k.single r) a.0 on.sound (gave_here k h n (reading r)) (λ i apart. gave_else k h n i (reading r) apart) (λ s. refl) (λ s. gave_slot k h n (reading r) s)
   call_holds (Arrive n f) q =
       let a = node_passed n _ q in
       let g = frame f.now in
-      fused_holds (gave n g) n (gift_form k g) a.0 on.sound (gave_here k h n g) (λ i apart. gave_else k h n i g apart) (λ s. refl) (λ s. gave_slot k h n g s)
+      fused_holds (contributed n g) n (contribution_form k g) a.0 on.sound (gave_here k h n g) (λ i apart. gave_else k h n i g apart) (λ s. refl) (λ s. gave_slot k h n g s)
   call_holds (Send n s) q =
       let a = node_passed n _ q in
       let b = slot_passed s (cond (filled h s) (refused 7 None) done) a.1 in

@@ -7,7 +7,7 @@ use Rattle.histories.specs.declared.Turn.{Turn}
 use Rattle.histories.specs.Deeds.{deed, nothing, History, history_after}
 use Rattle.histories.specs.Folds.{node_form, IsFold}
 use Rattle.histories.proofs.Finding.{found, complete, filled_found, filled_complete}
-use Rattle.histories.proofs.Folding.{arranged_is, same_gifts}
+use Rattle.histories.proofs.Folding.{arranged_is, same_contributions}
 use Rattle.histories.proofs.Exactly.{search_folds, fold_unique}
 use Rattle.diffusion.specs.Turns.{Told, done, bytes, refused, is_accepted, State, turn_tells, call_leaves, turn_leaves, written_node, if_accepted, SameBut}
 use Rattle.diffusion.specs.Runs.{Rack, formed, rack_tells, Step, Opened, Ran, begun, then}
@@ -125,5 +125,5 @@ module _ {S : Type 0} (k : Kind) (laws : Laws k) (form : S → k.Form) where
     agree = λ nodes nodes' values values' memory memory' first first' ts ts' ws ws' h h' last last' o ran o' ran' n n' lt lt' there back.
         let on = holding k form laws nodes values memory o ran in
         let on' = holding k form laws nodes' values' memory' o' ran' in
-        ap k.encoding (on.nodes_hold n lt ∙ same_gifts k laws h h' n n' (found h) (λ i t. complete h i t on.sound) (found h') (λ i t. complete h' i t on'.sound) there back ∙ sym (on'.nodes_hold n' lt'));
+        ap k.encoding (on.nodes_hold n lt ∙ same_contributions k laws h h' n n' (found h) (λ i t. complete h i t on.sound) (found h') (λ i t. complete h' i t on'.sound) there back ∙ sym (on'.nodes_hold n' lt'));
   }

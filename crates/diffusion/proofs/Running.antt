@@ -6,7 +6,7 @@ use Rattle.synopsis.specs.Kind.{Kind, Laws, overlong}
 use Rattle.histories.specs.declared.Turn.{Turn}
 use Rattle.histories.specs.Deeds.{History, deed}
 use Rattle.network.specs.Tables.{Table}
-use Rattle.network.specs.Calls.{unless, served, open_answer, opened_network, Emptied}
+use Rattle.network.specs.Calls.{unless, with_enough_lent, open_answer, opened_network, Emptied}
 use Rattle.network.proofs.Refusing.{not_refused}
 use Rattle.diffusion.specs.Turns.{Told, is_accepted, State}
 use Rattle.diffusion.specs.Listening.{Heard, silence, more}
@@ -18,7 +18,7 @@ module _ {S : Type 0} (k : Kind) (form : S → k.Form) where
   -- what holds after every turn holds after an accepted OPEN
   opened_holds : (nodes : ℕ) (values : List S) (memory : List ℕ) (first : Rack S) → Opened k form nodes values memory first → Holding k nodes [] (formed k form first)
   opened_holds nodes values memory first o =
-      let a = not_refused (ltb nodes 1 || ltb 16 nodes) 1 (served k nodes (length values) (length memory) (Ok tt)) (sym o.accepted) in
+      let a = not_refused (ltb nodes 1 || ltb 16 nodes) 1 (with_enough_lent k nodes (length values) (length memory) (Ok tt)) (sym o.accepted) in
       let b = not_refused (ltb (length values) nodes || ltb (length memory) 65536) 2 (unless (overlong k) 3 (Ok tt)) a.1 in
       let c = not_refused (overlong k) 3 (Ok tt) b.1 in
       let lent = or_parts (ltb (length values) nodes) (ltb (length memory) 65536) b.0 in

@@ -4,7 +4,7 @@ use Rattle.std.specs.Prelude.{◌≡◌, ℕ, ◌+◌, ◌<◌, ◌≤◌, true,
 use Rattle.synopsis.specs.Kind.{Kind}
 use Rattle.histories.specs.declared.Call.TheVariants.{Read}
 use Rattle.histories.specs.declared.Turn.{Turn}
-use Rattle.histories.specs.Deeds.{Gift, sent, History, deed, nothing, history_after}
+use Rattle.histories.specs.Deeds.{Contribution, sent, History, deed, nothing, history_after}
 use Rattle.histories.specs.Paths.{Did, Reaches, Filled}
 use Rattle.histories.specs.Search.{reaches, filled}
 use Rattle.histories.specs.Folds.{node_form, slot_form, Came, Arranged, IsFold}
@@ -88,5 +88,5 @@ module _ {S : Type 0} (k : Kind) (form : S → k.Form) where
     pub agree : (nodes nodes' : ℕ) (values values' : List S) (memory memory' : List ℕ) (first first' : Rack S) (ts ts' : List Turn) (ws ws' : List Told) (h h' : History) (last last' : Rack S)
         → Opened k form nodes values memory first → Ran k form first ts ws h last → Opened k form nodes' values' memory' first' → Ran k form first' ts' ws' h' last'
         → (n n' : ℕ) → n < nodes → n' < nodes'
-        → ((g : Gift) → Came h n g → Came h' n' g) → ((g : Gift) → Came h' n' g → Came h n g)
+        → ((g : Contribution) → Came h n g → Came h' n' g) → ((g : Contribution) → Came h' n' g → Came h n g)
         → k.encoding (node_holds last n) ≡ k.encoding (node_holds last' n')

@@ -13,7 +13,7 @@ use texts::shown::Pairs;
 // A frame, in fixed memory with a length of its own.
 pub(crate) type Frame = ArrayVec<u8, GREATEST>;
 
-// One host of the rack: a name and what it has counted.
+/// One host of the rack: its name, and the least values of what it has counted.
 #[derive(Clone, Copy)]
 pub struct Host {
     name: &'static str,

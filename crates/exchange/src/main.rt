@@ -1,4 +1,5 @@
-// A rack exchange: three hosts count clients, pass frames by two routes, and come to agree byte by byte.
+// How a program embeds a host: each host holds a value of one kind, counts readings in it, and passes frames. Three of them
+// count clients here, pass frames by two routes, and come to agree byte by byte.
 #![tactic(auto)]
 
 mod host;
@@ -8,7 +9,7 @@ use readings::Reading;
 use std::io;
 use texts::shown::Pairs;
 
-// How many bytes of a frame get through where it is cut on the way: this program's own number, as many as in the afternoon.
+// How many bytes of a frame get through where it is cut on the way.
 const CUT: usize = 19;
 
 fn reading(tenant: u32, item: u64, amount: u64) -> Reading {

@@ -7,11 +7,11 @@ ghost use Rattle.figures.specs.Figures.{Figures};
 ghost use Rattle.figures.specs.Scripts.{WorkedScript};
 
 use bitmaps::zeros::lowest_zero;
-use pile::greatest_lengths;
+use usage::pile::greatest_lengths;
 use readings::{mark, mix};
 use runs::union::union;
 
-// Some of the table's numbers, as the calls give them.
+/// Some of the table's numbers, as the calls give them.
 #[derive(Clone, Copy)]
 pub struct Computed {
     pub hash_of_0: u64,

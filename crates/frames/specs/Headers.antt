@@ -1,4 +1,4 @@
--- The first four bytes of a frame: the kind number, a count, and in two bytes the end, which is the frame's length.
+-- A frame begins with a kind number, a count, and the place of its end in two bytes.
 use Rattle.std.specs.Prelude.{ℕ, ◌+◌, ◌*◌, cond, ◌||◌, List, ◌∷◌, length, Ok, Err, Result, ◌==◌, nat_lt, slice_index}
 use Rattle.synopsis.specs.declared.fault.DecodeFault.{DecodeFault}
 use Rattle.synopsis.specs.Faults.{refusal}

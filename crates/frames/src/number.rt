@@ -2,7 +2,7 @@ ghost use Rattle.std.specs.Prelude.{◌≡◌, ◌%◌, ◌^◌, ◌<◌, length
 ghost use Rattle.std.specs.List.{AllByRecursion};
 ghost use Rattle.frames.specs.Numbers.{low_bytes, from_bytes};
 
-// The number that bytes write, highest first, modulo 2^64: of any number of bytes, where `from_be_bytes` has eight.
+/// The number that bytes write, highest first, modulo 2^64.
 pub fn get_number(bytes: &[u8]) -> u64
     ensures value { result ≡ from_bytes bytes.now % 2 ^ 64 }
     ensures small { AllByRecursion (λ b. b < 256) bytes.now }
@@ -14,14 +14,13 @@ pub fn get_number(bytes: &[u8]) -> u64
     n
 }
 
-// Fills `out` with the lowest bytes of a number, highest first.
+/// Fills `out` with the lowest bytes of a number, highest first: as many bytes as `out` has.
 pub fn put_number(out: &mut [u8], n: u64)
     ensures { out.new ≡ low_bytes (length out.old) n }
 {
     let mut rest = n;
-    // By index: after a loop over `iter_mut().rev()` a proof knows how many bytes there are, and none of them.
+    // By index: the proof needs it (docs/DECISIONS.md).
     for i in (0..out.len()).rev() {
-        // By `as`, behind a remainder.
         out[i] = (rest % 256) as u8;
         rest /= 256;
     }

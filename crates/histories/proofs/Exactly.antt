@@ -2,10 +2,10 @@
 use Rattle.std.proofs.Common.{◌≡◌, ℕ, suc, Bool, true, false, cond, [], ◌∷◌, length, refl, inl, inr, sym, ap, ◌∙◌, ⊎_elim}
 use Rattle.std.proofs.lemmas.Bool.{cond-true, cond-false, both_ways}
 use Rattle.synopsis.specs.Kind.{Kind}
-use Rattle.histories.specs.Deeds.{gave, sent, delivered, dropped, nothing, History}
+use Rattle.histories.specs.Deeds.{contributed, sent, delivered, dropped, nothing, History}
 use Rattle.histories.specs.Paths.{Reaches}
 use Rattle.histories.specs.Search.{reaches}
-use Rattle.histories.specs.Folds.{gift_form, fold_over, JoinedWhere, IsFoldOver}
+use Rattle.histories.specs.Folds.{contribution_form, fold_over, JoinedWhere, IsFoldOver}
 
 -- a test that tells of a path chooses as the path does
 chosen : {F : Type 0} (path : Type 0) (b : Bool) (joined y : F) → (b ≡ true → path) → (path → b ≡ true) → (c : Bool) → b ≡ c → JoinedWhere path (cond b joined y) joined y
@@ -24,10 +24,10 @@ module _ (k : Kind) (h : History) (n : ℕ) where
   module _ (found : (t : ℕ) → reaches h n t ≡ true → Reaches h t n) (complete : (t : ℕ) → Reaches h t n → reaches h n t ≡ true) where
     pub search_folds : (oldest : History) → IsFoldOver k h n oldest (fold_over k (reaches h n) oldest)
     search_folds [] = refl
-    search_folds (gave m g ∷ oldest) =
+    search_folds (contributed m g ∷ oldest) =
         let t = suc (length oldest) in
         let y = fold_over k (reaches h n) oldest in
-        (y, search_folds oldest, chosen (Reaches h t n) (reaches h n t) (k.join y (gift_form k g)) y (found t) (complete t) (reaches h n t) refl)
+        (y, search_folds oldest, chosen (Reaches h t n) (reaches h n t) (k.join y (contribution_form k g)) y (found t) (complete t) (reaches h n t) refl)
     search_folds (sent m r ∷ oldest) = search_folds oldest
     search_folds (delivered r m ∷ oldest) = search_folds oldest
     search_folds (dropped r ∷ oldest) = search_folds oldest
@@ -35,9 +35,9 @@ module _ (k : Kind) (h : History) (n : ℕ) where
 
   pub fold_unique : (oldest : History) (x y : k.Form) → IsFoldOver k h n oldest x → IsFoldOver k h n oldest y → x ≡ y
   fold_unique [] x y p q = p ∙ sym q
-  fold_unique (gave m g ∷ oldest) x y p q =
+  fold_unique (contributed m g ∷ oldest) x y p q =
       let rest : p.0 ≡ q.0 = fold_unique oldest p.0 q.0 p.1 q.1 in
-      same_choice (Reaches h (suc (length oldest)) n) x y (k.join p.0 (gift_form k g)) (k.join q.0 (gift_form k g)) p.0 q.0 (ap (λ (z : k.Form). k.join z (gift_form k g)) rest) rest p.2 q.2
+      same_choice (Reaches h (suc (length oldest)) n) x y (k.join p.0 (contribution_form k g)) (k.join q.0 (contribution_form k g)) p.0 q.0 (ap (λ (z : k.Form). k.join z (contribution_form k g)) rest) rest p.2 q.2
   fold_unique (sent m r ∷ oldest) x y p q = fold_unique oldest x y p q
   fold_unique (delivered r m ∷ oldest) x y p q = fold_unique oldest x y p q
   fold_unique (dropped r ∷ oldest) x y p q = fold_unique oldest x y p q

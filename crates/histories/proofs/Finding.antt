@@ -1,7 +1,7 @@
 -- The search finds the delivered paths and the filled slots, and where sends went only into free slots it misses none.
 use Rattle.std.proofs.Common.{◌≡◌, ℕ, suc, ◌<◌, ◌≤◌, true, false, ◌&&◌, eqb, [], ◌∷◌, length, sym, refl, ap, ◌∙◌, subst, ⊎_elim, arith}
 use Rattle.std.proofs.lemmas.Bool.{or_cases, or_left, or_right, and_parts, and_from, eqb-true, eqb-false, eq-eqb, ne_eqb, cond-true, cond-false, cases_Bool, cases_lt, both_ways}
-use Rattle.histories.specs.Deeds.{Gift, Deed, gave, sent, delivered, dropped, nothing, History}
+use Rattle.histories.specs.Deeds.{Contribution, Deed, contributed, sent, delivered, dropped, nothing, History}
 use Rattle.histories.specs.Paths.{Did, newest, before, Undropped, Path, start, hop, Reaches, Filled}
 use Rattle.histories.specs.Search.{filled, reaches, carries, Sound}
 
@@ -43,7 +43,7 @@ no_drop : {e : Deed} {h : History} {s k : ℕ} → k ≤ length h → Stays (e �
 no_drop {e} {h} le stays q = stays (suc (length h)) (omega arith) (subst (λ (d : Deed). Did (e ∷ h) (suc (length h)) d) q newest)
 
 -- other deeds are no drops
-gave_other : {m s : ℕ} {g : Gift} → gave m g ≡ dropped s → ⊥
+gave_other : {m s : ℕ} {g : Contribution} → contributed m g ≡ dropped s → ⊥
 gave_other q = let z : ◌≡◌ {A = ℕ} 0 1 = cc in omega arith
 
 sent_other : {m r s : ℕ} → sent m r ≡ dropped s → ⊥
@@ -85,7 +85,7 @@ filled_up other f = (f.0, f.1, before f.2, stays_up other f.3)
 -- a slot that the search calls filled is filled
 pub filled_found : (h : History) (s : ℕ) → filled h s ≡ true → Filled h s
 filled_found [] s e = absurd (both_ways false refl e)
-filled_found (gave m g ∷ h) s e = filled_up gave_other (filled_found h s e)
+filled_found (contributed m g ∷ h) s e = filled_up gave_other (filled_found h s e)
 filled_found (sent m r ∷ h) s e =
     ⊎_elim
     (λ q. let into : Did (sent m r ∷ h) (suc (length h)) (sent m s) = subst (λ (x : ℕ). Did (sent m r ∷ h) (suc (length h)) (sent m x)) (eqb-true r s q) newest in
@@ -134,11 +134,11 @@ newly_carried m r h s t q f =
       stays = λ l kl a. let le = drop_older sent_other a in omega arith;
     }
 
-newly_given : (m : ℕ) (g : Gift) (h : History) (n t : ℕ) → m ≡ n → t ≡ suc (length h) → Reaches (gave m g ∷ h) t n
+newly_given : (m : ℕ) (g : Contribution) (h : History) (n t : ℕ) → m ≡ n → t ≡ suc (length h) → Reaches (contributed m g ∷ h) t n
 newly_given m g h n t q z =
-    let made : Reaches (gave m g ∷ h) (suc (length h)) m = (suc (length h), start newest) in
-    let there : Reaches (gave m g ∷ h) (suc (length h)) n = subst (λ (x : ℕ). Reaches (gave m g ∷ h) (suc (length h)) x) q made in
-    subst (λ (x : ℕ). Reaches (gave m g ∷ h) x n) (sym z) there
+    let made : Reaches (contributed m g ∷ h) (suc (length h)) m = (suc (length h), start newest) in
+    let there : Reaches (contributed m g ∷ h) (suc (length h)) n = subst (λ (x : ℕ). Reaches (contributed m g ∷ h) (suc (length h)) x) q made in
+    subst (λ (x : ℕ). Reaches (contributed m g ∷ h) x n) (sym z) there
 
 newly_delivered : (r m : ℕ) (h : History) (n t : ℕ) → m ≡ n → Carried h r t → Reaches (delivered r m ∷ h) t n
 newly_delivered r m h n t q c =
@@ -151,7 +151,7 @@ mutual
   -- where the search says that a contribution has reached a node, it has a path there
   pub found : (h : History) (n t : ℕ) → reaches h n t ≡ true → Reaches h t n
   found [] n t e = absurd (both_ways false refl e)
-  found (gave m g ∷ h) n t e =
+  found (contributed m g ∷ h) n t e =
       ⊎_elim
       (λ a. let q = and_parts (eqb m n) (eqb t (suc (length h))) a in newly_given m g h n t (eqb-true m n q.0) (eqb-true t (suc (length h)) q.1))
       (λ b. reaches_up (found h n t b))
@@ -167,7 +167,7 @@ mutual
 
   carried_found : (h : History) (s t : ℕ) → carries h s t ≡ true → Carried h s t
   carried_found [] s t e = absurd (both_ways false refl e)
-  carried_found (gave m g ∷ h) s t e = carried_up gave_other (carried_found h s t e)
+  carried_found (contributed m g ∷ h) s t e = carried_up gave_other (carried_found h s t e)
   carried_found (sent m r ∷ h) s t e =
       ⊎_elim
       (λ q. newly_carried m r h s t (eqb-true r s q) (found h m t (sym (cond-true (eqb r s) (reaches h m t) (carries h s t) q) ∙ e)))
@@ -184,7 +184,7 @@ mutual
 -- What is there the search finds
 
 still_filled : (e : Deed) (h : History) (s : ℕ) → (e ≡ dropped s → ⊥) → filled h s ≡ true → filled (e ∷ h) s ≡ true
-still_filled (gave m g) h s other f = f
+still_filled (contributed m g) h s other f = f
 still_filled (sent m r) h s other f = or_right (eqb r s) (filled h s) f
 still_filled (delivered r m) h s other f = f
 still_filled (dropped r) h s other f = cond-false (eqb r s) false (filled h s) (ne_eqb r s (λ q. other (ap dropped q))) ∙ f
@@ -199,14 +199,14 @@ pub filled_complete : (h : History) (s : ℕ) → Filled h s → filled h s ≡ 
 filled_complete h s f = sent_stays f.2 f.3
 
 sound_down : (e : Deed) (h : History) → Sound (e ∷ h) → Sound h
-sound_down (gave m g) h ok = ok
+sound_down (contributed m g) h ok = ok
 sound_down (sent m r) h ok = ok.1
 sound_down (delivered r m) h ok = ok
 sound_down (dropped r) h ok = ok
 sound_down nothing h ok = ok
 
 still_reaches : (e : Deed) (h : History) (n t : ℕ) → reaches h n t ≡ true → reaches (e ∷ h) n t ≡ true
-still_reaches (gave m g) h n t f = or_right (eqb m n && eqb t (suc (length h))) (reaches h n t) f
+still_reaches (contributed m g) h n t f = or_right (eqb m n && eqb t (suc (length h))) (reaches h n t) f
 still_reaches (sent m r) h n t f = f
 still_reaches (delivered r m) h n t f = or_right (eqb m n && carries h r t) (reaches h n t) f
 still_reaches (dropped r) h n t f = f
@@ -214,7 +214,7 @@ still_reaches nothing h n t f = f
 
 -- a filled slot carries on: no sound send goes into it
 still_carries : (e : Deed) (h : History) (s t : ℕ) → Sound (e ∷ h) → filled h s ≡ true → (e ≡ dropped s → ⊥) → carries h s t ≡ true → carries (e ∷ h) s t ≡ true
-still_carries (gave m g) h s t ok full other f = f
+still_carries (contributed m g) h s t ok full other f = f
 still_carries (sent m r) h s t ok full other f =
     let apart : r ≡ s → ⊥ = λ q. both_ways (filled h r) ok.0 (ap (filled h) q ∙ full) in
     cond-false (eqb r s) (reaches h m t) (carries h s t) (ne_eqb r s apart) ∙ f
@@ -222,7 +222,7 @@ still_carries (delivered r m) h s t ok full other f = f
 still_carries (dropped r) h s t ok full other f = cond-false (eqb r s) false (carries h s t) (ne_eqb r s (λ q. other (ap dropped q))) ∙ f
 still_carries nothing h s t ok full other f = f
 
-newest_gave : {e : Deed} {h : History} {n t : ℕ} {g : Gift} → Did (e ∷ h) t (gave n g) → length h < t → reaches (e ∷ h) n t ≡ true
+newest_gave : {e : Deed} {h : History} {n t : ℕ} {g : Contribution} → Did (e ∷ h) t (contributed n g) → length h < t → reaches (e ∷ h) n t ≡ true
 newest_gave {n = n} (newest {h = h}) lt =
     let t = suc (length h) in
     or_left (eqb n n && eqb t t) (reaches h n t) (and_from (eqb n n) (eqb t t) (eq-eqb n n refl) (eq-eqb t t refl))

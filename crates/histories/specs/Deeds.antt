@@ -5,15 +5,15 @@ use Rattle.histories.specs.declared.Call.{Call}
 use Rattle.histories.specs.declared.Call.TheVariants.{Generate, Arrive, Send, Deliver, Drop, Read}
 use Rattle.histories.specs.declared.Turn.{Turn}
 
--- what a contribution brings: a reading, or the bytes of a frame from outside
-pub data Gift : Type 0 where
-  reading : Reading → Gift
-  frame : List ℕ → Gift
+-- what an accepted GENERATE or ARRIVE brings to a node: a reading, or the bytes of a frame from outside
+pub data Contribution : Type 0 where
+  reading : Reading → Contribution
+  frame : List ℕ → Contribution
 
 -- what a turn did: an accepted GENERATE or ARRIVE gave something to a node, SEND sent from a node into a slot,
 -- DELIVER delivered a slot to a node, DROP dropped a slot; a READ and a refused turn did nothing
 pub data Deed : Type 0 where
-  gave : (node : ℕ) (g : Gift) → Deed
+  contributed : (node : ℕ) (g : Contribution) → Deed
   sent : (node slot : ℕ) → Deed
   delivered : (slot node : ℕ) → Deed
   dropped : (slot : ℕ) → Deed
@@ -25,8 +25,8 @@ History = List Deed
 
 -- what a call did, if it was accepted
 abbrev pub deed_of : Call → Deed
-deed_of (Generate n r) = gave n (reading r)
-deed_of (Arrive n bytes) = gave n (frame bytes.now)
+deed_of (Generate n r) = contributed n (reading r)
+deed_of (Arrive n bytes) = contributed n (frame bytes.now)
 deed_of (Send n s) = sent n s
 deed_of (Deliver s n) = delivered s n
 deed_of (Drop s) = dropped s

@@ -2,7 +2,7 @@
 use Rattle.std.specs.Prelude.{◌≡◌, ℕ, suc, Bool, cond, ◌⊎◌, [], ◌∷◌, length, Ok, Err, Result}
 use Rattle.synopsis.specs.declared.fault.DecodeFault.{DecodeFault}
 use Rattle.synopsis.specs.Kind.{Kind}
-use Rattle.histories.specs.Deeds.{Gift, reading, frame, gave, sent, delivered, dropped, nothing, History}
+use Rattle.histories.specs.Deeds.{Contribution, reading, frame, contributed, sent, delivered, dropped, nothing, History}
 use Rattle.histories.specs.Paths.{Did, Reaches}
 use Rattle.histories.specs.Search.{reaches, carries}
 
@@ -13,14 +13,14 @@ module _ (k : Kind) where
   read_as (Err e) = k.none
 
   -- a contribution's form: its reading's, or the one that its bytes encode
-  abbrev pub gift_form : Gift → k.Form
-  gift_form (reading r) = k.single r
-  gift_form (frame bytes) = read_as (k.decoding bytes)
+  abbrev pub contribution_form : Contribution → k.Form
+  contribution_form (reading r) = k.single r
+  contribution_form (frame bytes) = read_as (k.decoding bytes)
 
   -- the fold, from the empty form and in turn order, over the contributions whose turns pass the test
   abbrev pub fold_over : (ℕ → Bool) → History → k.Form
   fold_over p [] = k.none
-  fold_over p (gave m g ∷ h) = cond (p (suc (length h))) (k.join (fold_over p h) (gift_form g)) (fold_over p h)
+  fold_over p (contributed m g ∷ h) = cond (p (suc (length h))) (k.join (fold_over p h) (contribution_form g)) (fold_over p h)
   fold_over p (sent m r ∷ h) = fold_over p h
   fold_over p (delivered r m ∷ h) = fold_over p h
   fold_over p (dropped r ∷ h) = fold_over p h
@@ -42,7 +42,7 @@ module _ (k : Kind) (h : History) (n : ℕ) where
   -- have a delivered path to node n
   abbrev pub IsFoldOver : History → k.Form → Type 0
   IsFoldOver [] x = x ≡ k.none
-  IsFoldOver (gave m g ∷ oldest) x = (y : k.Form) × IsFoldOver oldest y × JoinedWhere (Reaches h (suc (length oldest)) n) x (k.join y (gift_form k g)) y
+  IsFoldOver (contributed m g ∷ oldest) x = (y : k.Form) × IsFoldOver oldest y × JoinedWhere (Reaches h (suc (length oldest)) n) x (k.join y (contribution_form k g)) y
   IsFoldOver (sent m r ∷ oldest) x = IsFoldOver oldest x
   IsFoldOver (delivered r m ∷ oldest) x = IsFoldOver oldest x
   IsFoldOver (dropped r ∷ oldest) x = IsFoldOver oldest x
@@ -62,19 +62,19 @@ Leaf x (leaf y) = x ≡ y
 Leaf x (fork l r) = Leaf x l ⊎ Leaf x r
 
 -- the contribution of turn t, g, has a path to node n
-pub record Came (h : History) (n : ℕ) (g : Gift) : Type 0 where
+pub record Came (h : History) (n : ℕ) (g : Contribution) : Type 0 where
   pub turn : ℕ
   pub node : ℕ
-  pub did : Did h turn (gave node g)
+  pub did : Did h turn (contributed node g)
   pub path : Reaches h turn n
 
 module _ (k : Kind) where
-  abbrev pub tree_form : Tree Gift → k.Form
-  tree_form (leaf g) = gift_form k g
+  abbrev pub tree_form : Tree Contribution → k.Form
+  tree_form (leaf g) = contribution_form k g
   tree_form (fork l r) = k.join (tree_form l) (tree_form r)
 
   -- an arrangement of the contributions with a path to node n: a tree whose leaves are these, each once or more, and
   -- no other; or, where there are none, the empty form
   pub data Arranged (h : History) (n : ℕ) : k.Form → Type 0 where
-    arranged : (t : Tree Gift) → ((g : Gift) → Leaf g t → Came h n g) → ((g : Gift) → Came h n g → Leaf g t) → Arranged h n (tree_form t)
-    none_came : ((g : Gift) → Came h n g → ⊥) → Arranged h n k.none
+    arranged : (t : Tree Contribution) → ((g : Contribution) → Leaf g t → Came h n g) → ((g : Contribution) → Came h n g → Leaf g t) → Arranged h n (tree_form t)
+    none_came : ((g : Contribution) → Came h n g → ⊥) → Arranged h n k.none

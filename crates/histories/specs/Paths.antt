@@ -1,6 +1,6 @@
 -- Delivered paths.
 use Rattle.std.specs.Prelude.{ℕ, suc, ◌<◌, ◌∷◌, length}
-use Rattle.histories.specs.Deeds.{Gift, Deed, gave, sent, delivered, dropped, History}
+use Rattle.histories.specs.Deeds.{Contribution, Deed, contributed, sent, delivered, dropped, History}
 
 -- turn i of the history did d
 pub data Did : History → ℕ → Deed → Type 0 where
@@ -15,7 +15,7 @@ Undropped h s i j = (l : ℕ) → i < l → l < j → Did h l (dropped s) → �
 -- none. A hop is a send into a slot and a later delivery of that slot, with no drop of it between; the first send is
 -- later than the contribution, and each further one later than the delivery before it.
 pub data Path (h : History) (t : ℕ) : ℕ → ℕ → Type 0 where
-  start : {n : ℕ} {g : Gift} → Did h t (gave n g) → Path h t n t
+  start : {n : ℕ} {g : Contribution} → Did h t (contributed n g) → Path h t n t
   hop : {m n s i k j : ℕ} → Path h t m i → i < k → Did h k (sent m s) → k < j → Did h j (delivered s n) → Undropped h s k j → Path h t n j
 
 -- the contribution of turn t has a path to node n

@@ -15,10 +15,12 @@ const NUMBER: u8 = 5;
 // Where the first side begins: after the header and the offset of the second side.
 const FIRST: usize = 6;
 
-// Two synopses, side by side.
+/// Two synopses of any kinds, side by side: itself a kind. A reading counts in both; each side joins by itself.
 #[derive(Clone, PartialEq, Eq, Debug, Drop)]
 pub struct Pair<A, B> {
+    /// the side whose frame comes first
     pub first: A,
+    /// the side whose frame comes second
     pub second: B,
 }
 
@@ -116,7 +118,6 @@ impl<A: Synopsis, B: Synopsis> Synopsis for Pair<A, B> {
         if out.len() < end {
             return Err(EncodeFault::Room);
         }
-        // By `as`: both are at most 2,048 here, and `try_from` would answer a refusal that never comes.
         out[0..FIRST].copy_from_slice(&head_bytes(offset as u16, end as u16));
         self.first.encode(&mut out[FIRST..offset])?;
         self.second.encode(&mut out[offset..end])?;

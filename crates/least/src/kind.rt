@@ -9,26 +9,24 @@ use runs::row::Row;
 use synopsis::fault::{DecodeFault, EncodeFault};
 use synopsis::kind::Synopsis;
 
-// How many bytes a frame of least values has at most.
+/// How many bytes a frame of least values has at most.
 pub const GREATEST: usize = 516;
 
 impl LeastValues {
-    // How many different readings the values tell of.
+    /// An estimate of how many different hashes were seen: their number while it is below 64, and then
+    /// 63 * 2^32 / (u + 1), where u are the upper 32 bits of the last value.
     pub fn estimate(&self) -> u64
         ensures { result ≡ estimate_of (least_form self.now).items }
     {
         let run = LeastRun::of(&self.row);
         let values = run.as_slice();
         if values.len() < 64 {
-            // By `as`, below 64: `u64` has no `From<usize>`.
             return values.len() as u64;
         }
         (63 << 32) / ((values[63] >> 32) + 1)
     }
 }
 
-// Each kind has these calls of its own, a line or two for each: an impl for every row at once would owe, at each call of a
-// Run, that this has fewer than 2^63 bytes, of which a proof knows nothing for a row of any element.
 impl Synopsis for LeastValues {
     const NUMBER: u8 = 2;
 

@@ -47,14 +47,14 @@ module _ (k : Kind) where
 
   -- how many nodes there are or are to be, and how many values and bytes are brought: what every call refuses before it
   -- looks at its node and slot
-  abbrev pub served : {A : Type 0} → ℕ → ℕ → ℕ → Result A NetworkFault → Result A NetworkFault
-  served nodes values bytes rest = unless (nat_lt values nodes || nat_lt bytes memory_bytes) 2 (unless (overlong k) 3 rest)
+  abbrev pub with_enough_lent : {A : Type 0} → ℕ → ℕ → ℕ → Result A NetworkFault → Result A NetworkFault
+  with_enough_lent nodes values bytes rest = unless (nat_lt values nodes || nat_lt bytes memory_bytes) 2 (unless (overlong k) 3 rest)
 
   -- a network, how many values and how many bytes it is brought
   module _ (net : Table) (values bytes : ℕ) where
     -- what every call but OPEN refuses first
     abbrev pub ready : {A : Type 0} → Result A NetworkFault → Result A NetworkFault
-    ready rest = served net.count values bytes rest
+    ready rest = with_enough_lent net.count values bytes rest
 
     abbrev pub no_node : {A : Type 0} → ℕ → Result A NetworkFault → Result A NetworkFault
     no_node node rest = unless (nat_le net.count node) 4 rest
@@ -85,7 +85,7 @@ module _ (k : Kind) where
   -- OPEN
   abbrev pub open_answer : ℕ → ℕ → ℕ → Result (Unit {0}) NetworkFault
   open_answer nodes values bytes =
-      unless (nat_lt nodes 1 || nat_lt most_nodes nodes) 1 (served nodes values bytes (Ok tt))
+      unless (nat_lt nodes 1 || nat_lt most_nodes nodes) 1 (with_enough_lent nodes values bytes (Ok tt))
 
 -- the memory with a frame at a place
 abbrev pub placed : List ℕ → ℕ → List ℕ → List ℕ

@@ -1,5 +1,5 @@
 ghost use Rattle.std.specs.Prelude.{◌≡◌, ◌<◌, ◌≤◌, false, ◌++◌, length, drop, None, Ok, IfOk, MatchResult, nat_le, slice_index_or};
-ghost use Rattle.network.specs.Calls.{opened_network, slot_of, switched, value_form, value_frame, placed, slot_start, slot_frame, no_slot, unless, served, generate_answer, arrive_answer, send_answer, deliver_answer, drop_answer, read_answer, open_answer, Fused, Joined, Emptied};
+ghost use Rattle.network.specs.Calls.{opened_network, slot_of, switched, value_form, value_frame, placed, slot_start, slot_frame, no_slot, unless, with_enough_lent, generate_answer, arrive_answer, send_answer, deliver_answer, drop_answer, read_answer, open_answer, Fused, Joined, Emptied};
 ghost use Rattle.synopsis.specs.Kind.{overlong};
 
 use crate::fault::NetworkFault;
@@ -11,12 +11,12 @@ use synopsis::kind::{LONGEST, Synopsis};
 /// How many bytes a slot has, room for any frame.
 pub const SLOT: usize = LONGEST;
 
-/// How many bytes of memory a network asks for: slot s begins at byte `SLOT * s`.
+/// How many bytes of memory a network asks for. Slot s begins at byte `SLOT * s`.
 pub const MEMORY: usize = SLOTS * SLOT;
 
 // What every call refuses before it looks at its node and slot, where there are or are to be so many nodes.
 fn check_lent<S: Synopsis>(nodes: usize, values: &[S], memory: &[u8]) -> Result<(), NetworkFault>
-    ensures { result ≡ served S.Synopsis.kind nodes (length values.now) (length memory.now) (Ok tt) }
+    ensures { result ≡ with_enough_lent S.Synopsis.kind nodes (length values.now) (length memory.now) (Ok tt) }
 {
     if values.len() < nodes || memory.len() < MEMORY {
         return Err(NetworkFault::TooLittleLent);
@@ -112,7 +112,8 @@ impl Network {
         Ok(())
     }
 
-    /// GENERATE: a reading at a node.
+    /// GENERATE: joins a reading into a node's value. It refuses with 2 fewer values than nodes or fewer than `MEMORY` bytes, with 3
+    /// an overlong kind, with 4 a node not below the count; then all values stay.
     pub fn generate<S: Synopsis>(
         &self,
         values: &mut [S],
@@ -129,7 +130,8 @@ impl Network {
         Ok(())
     }
 
-    /// ARRIVE: bytes from outside at a node.
+    /// ARRIVE: decodes bytes from outside, and joins what they encode into a node's value. It refuses with 2, 3, 4 as `generate`
+    /// does, then with DECODE's fault; then all values stay.
     pub fn arrive<S: Synopsis>(
         &self,
         values: &mut [S],
@@ -148,7 +150,8 @@ impl Network {
         Ok(())
     }
 
-    /// SEND: a node's value, encoded into a slot.
+    /// SEND: encodes a node's value into a free slot, which becomes filled. It refuses with 2, 3, 4 as `generate` does, then with 5
+    /// a slot above 31, with 7 a filled one; then table and memory stay.
     pub fn send<S: Synopsis>(
         &mut self,
         values: &[S],
@@ -171,7 +174,8 @@ impl Network {
         Ok(())
     }
 
-    /// DELIVER: what a slot holds, at a node; the slot stays filled.
+    /// DELIVER: decodes what a slot holds, and joins it into a node's value; the slot stays filled. It refuses with 2, 3, then with 5
+    /// a slot above 31, with 4 a node not below the count, with 6 a free slot, then with DECODE's fault; then all values stay.
     pub fn deliver<S: Synopsis>(
         &self,
         values: &mut [S],
@@ -193,7 +197,7 @@ impl Network {
         Ok(())
     }
 
-    // DROP: a slot is free again.
+    /// DROP: frees a slot. It refuses with 2, 3, then with 5 a slot above 31, with 6 a free one; then the table stays.
     pub fn drop_slot<S: Synopsis>(
         &mut self,
         values: &[S],
@@ -212,7 +216,8 @@ impl Network {
         Ok(())
     }
 
-    /// READ: a node's encoding at the front of `out`, and its length.
+    /// READ: writes a node's encoding at the front of `out`, and answers its length in bytes. It refuses with 2, 3, 4 as `generate`
+    /// does, then with 8 fewer bytes than the encoding has; then all bytes stay.
     pub fn read<S: Synopsis>(
         &self,
         values: &[S],
@@ -228,7 +233,8 @@ impl Network {
         Ok(values[node].encode(out)?)
     }
 
-    /// OPEN: so many nodes, all empty, and all slots free.
+    /// OPEN: makes a network of this many nodes, all empty, with all slots free. It refuses with 1 a count outside 1 to 16, then with
+    /// 2 fewer values than that or fewer than `MEMORY` bytes, with 3 an overlong kind; then table and values stay.
     pub fn open<S: Synopsis>(
         &mut self,
         values: &mut [S],

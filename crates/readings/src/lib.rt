@@ -4,16 +4,19 @@
 ghost use Rattle.std.specs.Prelude.{◌≡◌};
 ghost use Rattle.readings.specs.Readings.{mixed, output_of, hash_of, mark_of};
 
-// One client seen at work: whose, which client, and how much it used.
+/// One client seen at work.
 #[derive(Clone, Copy, PartialEq, Eq, Debug)]
 pub struct Reading {
+    /// whose client it is
     pub tenant: u32,
+    /// which client
     pub item: u64,
+    /// how much it used, in the unit of whoever counts
     pub amount: u64,
 }
 
 impl Reading {
-    // The hash by which every kind of synopsis counts this reading.
+    /// The hash by which every kind of synopsis counts this reading: that of its item alone.
     pub fn hash(self) -> u64
         ensures { result ≡ hash_of self }
     {
@@ -24,7 +27,7 @@ impl Reading {
 // What the SplitMix64 generator adds to its state before each output.
 const STEP: u64 = 0x9E37_79B9_7F4A_7C15;
 
-// SplitMix64's output step.
+/// SplitMix64's output step (Steele, Lea and Flood 2014): spreads the bits of a number over all 64.
 pub fn mix(item: u64) -> u64
     ensures { result ≡ mixed item }
 {
@@ -34,14 +37,14 @@ pub fn mix(item: u64) -> u64
     z ^ (z >> 31)
 }
 
-// Output `i` of the generator that has this seed, counted from zero.
+/// Output `i`, counted from zero, of the SplitMix64 generator with this seed.
 pub fn output(seed: u64, i: u64) -> u64
     ensures { result ≡ output_of seed i }
 {
     mix(seed.wrapping_add(i.wrapping_mul(STEP)))
 }
 
-// The mark of a hash: its bucket, below 64, and its rank, at most 31.
+/// The mark of a hash: its bucket, from 0 to 63, and its rank, from 0 to 31.
 pub fn mark(hash: u64) -> (u32, u32)
     ensures { result ≡ mark_of hash }
 {
@@ -52,6 +55,5 @@ pub fn mark(hash: u64) -> (u32, u32)
     } else {
         count
     };
-    // By `as`, behind a remainder: `try_from` would answer a refusal that never comes.
     ((hash % 64) as u32, rank)
 }

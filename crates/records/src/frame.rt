@@ -53,7 +53,7 @@ pub fn encode_records<E: Record>(
     Ok(end)
 }
 
-/// The length in bytes of the frame of a run; 2,049 where its records do not fit into one.
+/// The length in bytes of the frame of a run; 2,049 where its records do not fit into one frame.
 pub fn run_length<E: Record, const N: usize>(run: &Run<E, N>) -> usize
     ensures { result ≡ records_length E.Record.layout (length (counts run.now.row)) }
 {

@@ -7,20 +7,20 @@ ghost use Rattle.records.specs.Layouts.{numbers_readable};
 use frames::number::{get_number, put_number};
 use runs::element::Element;
 
-// An element that a frame holds, in a fixed number of bytes.
+/// An element that a frame holds, in a fixed number of bytes.
 pub trait Record: Element {
     ghost layout: { Layout Self };
 
+    /// How many bytes a record has.
     fn width() -> usize
         ensures { result ≡ layout.width };
 
-    // Writes the record over `out`, if that has its width.
+    /// Writes the record over `out`, if that has its width; else all bytes stay.
     fn put(self, out: &mut [u8])
         ensures whole { length out.old ≡ layout.width → out.new ≡ layout.written self }
         ensures over { out.new ≡ put_over layout self out.old };
 
-    // The record that bytes of its width are. Of another number of bytes it is the one that `layout.read` gives for none: an
-    // Option would ask a refusal of every caller, and all of them bring the width.
+    /// The record that bytes of its width are; of another number of bytes, the record that `layout.read` gives for none.
     fn get(bytes: &[u8]) -> Self
         ensures whole { length bytes.now ≡ layout.width → (result ≡ layout.read bytes.now) × (layout.written result ≡ bytes.now) }
         ensures value { result ≡ layout.read (of_width layout bytes.now) };
@@ -28,8 +28,7 @@ pub trait Record: Element {
     ghost readable: { Readable layout };
 }
 
-// Writes records one behind the other over `out`, which they fill. By the place of each record's bytes: after a loop over
-// `chunks_exact_mut` a proof knows nothing of what was written.
+// Writes records one behind the other over `out`, which they fill. By index: the proof needs it (docs/DECISIONS.md).
 pub(crate) fn put_all<E: Record>(items: &[E], out: &mut [u8])
     requires { length out.old ≡ length items.now * E.Record.layout.width }
     ensures { out.new ≡ flat_map E.Record.layout.written items.now }
@@ -42,8 +41,7 @@ pub(crate) fn put_all<E: Record>(items: &[E], out: &mut [u8])
     }
 }
 
-// Reads as many records as `out` has places from bytes that they fill. By the place of each record's bytes: a width may be
-// zero, and `chunks_exact` takes none of it.
+// Reads as many records as `out` has places from bytes that they fill. By index, since a width may be zero.
 pub(crate) fn get_all<E: Record>(bytes: &[u8], out: &mut [E])
     requires { length bytes.now ≡ length out.old * E.Record.layout.width }
     ensures value { out.new ≡ cut E.Record.layout (length out.old) bytes.now }
@@ -77,8 +75,7 @@ fn get_sized(bytes: &[u8], width: usize) -> u64
     get_number(bytes)
 }
 
-// Numbers of 64 bits, as hash values are: eight bytes, highest first. What it shares with that of 32 bits are the two calls
-// above; no plainer as one, for both it would be a trait of numbers and an impl of that for each, as long as these.
+// Numbers of 64 bits, as hash values are: eight bytes, highest first.
 impl Record for u64 {
     ghost layout = { numbers 8 };
 
@@ -112,7 +109,6 @@ impl Record for u32 {
     }
 
     fn get(bytes: &[u8]) -> u32 {
-        // By `as`, behind a remainder: `try_from` would answer a refusal that never comes.
         (get_sized(bytes, 4) % (1 << 32)) as u32
     }
 }

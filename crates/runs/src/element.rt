@@ -2,11 +2,12 @@ ghost use Rattle.std.specs.Prelude.{Bool, T, ◌==◌, ◌≡◌};
 ghost use Rattle.runs.specs.Order.{Lawful};
 ghost use Rattle.std.proofs.Common.{rules};
 
-// An element of a run: what is equal by its order is the same, and one value alone stands in unused places.
+/// An element of a run. Elements that are equal by the order are the same, and a single value stands in unused places.
 pub trait Element: Ord + Copy {
     // the test of an unused place
     ghost blank: { Self → Bool };
 
+    /// Whether the element is the one that stands in unused places.
     fn is_blank(self) -> bool
         ensures { result ≡ blank self };
 
@@ -15,7 +16,7 @@ pub trait Element: Ord + Copy {
     ghost one_blank: { (x y : Self) → T (blank x) → T (blank y) → x ≡ y };
 }
 
-// An element with which rows are made: its default is what stands in unused places.
+/// An element that rows can be made of: its default stands in unused places.
 pub trait Fresh: Element + Default {
     ghost fresh: { (x : Self) → Self.is_default x → T (Self.blank x) };
 }

@@ -7,21 +7,21 @@ use crate::run::is_run_row;
 use crate::union::union;
 use std::alloc::AllocError;
 
-// A plain row of places, of which the first `count` are in use: nothing more is known of it. A row that is no run stands
-// for the empty one. It is no Vec, since no call of a kind may want memory, and no ArrayVec, since its count may be wrong.
+/// A plain row of places. Nothing is known of it: a row that is no run stands for the empty run.
 #[derive(Clone, Copy, PartialEq, Eq, Debug)]
 pub struct Row<E, const N: usize> {
+    /// how many places are in use, the first ones
     pub count: usize,
+    /// the elements in use, then unused places
     pub places: [E; N],
 }
 
-// A row that passed the check: what it counts rises strictly, and its other places are unused.
+/// A row that passed the check: its elements rise strictly, and its other places are unused.
 pub struct Run<E: Element, const N: usize> {
     pub row: Row<E, N>,
     ghost kept: { T (keeps E.Ord.cmp E.Element.blank row) },
 }
 
-// By hand, since neither can be derived beside a ghost field that cites a bound.
 impl<E: Element, const N: usize> Copy for Run<E, N> {}
 
 impl<E: Element, const N: usize> Clone for Run<E, N> {
@@ -35,7 +35,7 @@ impl<E: Element, const N: usize> Clone for Run<E, N> {
 }
 
 impl<E: Fresh, const N: usize> Row<E, N> {
-    // A row that counts nothing.
+    /// A row with no elements.
     pub fn empty() -> Row<E, N>
         ensures kept { T (keeps E.Ord.cmp E.Element.blank result) }
         ensures nothing { counts result ≡ [] }
@@ -47,7 +47,7 @@ impl<E: Fresh, const N: usize> Row<E, N> {
         }
     }
 
-    // A row of one element.
+    /// A row of one element, or of none where it has no places.
     pub fn single(item: E) -> Row<E, N>
         ensures { form_of E.Ord.cmp E.Element.blank result ≡ as_run E.Ord.cmp N (item ∷ []) }
     {
@@ -63,7 +63,7 @@ impl<E: Fresh, const N: usize> Row<E, N> {
 }
 
 impl<E: Element, const N: usize> Run<E, N> {
-    // The run that a plain row is, where it passes the check.
+    /// The run that a plain row is; none where it fails the check.
     pub fn checked(row: &Row<E, N>) -> Option<Run<E, N>>
         ensures cases { MatchOption result (keeps E.Ord.cmp E.Element.blank row.now ≡ false) (λ t. t.row ≡ row.now) }
         ensures long { length row.now.places ≡ N }
@@ -74,7 +74,7 @@ impl<E: Element, const N: usize> Run<E, N> {
         Some(Run { row: *row })
     }
 
-    // What the row counts.
+    /// The elements of the run, rising.
     pub fn as_slice(&self) -> &[E]
         ensures { result.now ≡ counts self.now.row }
     {
@@ -84,15 +84,14 @@ impl<E: Element, const N: usize> Run<E, N> {
 }
 
 impl<E: Fresh, const N: usize> Run<E, N> {
-    // The run that a plain row stands for: the empty one where it fails the check. No `From`, which would not say that some rows
-    // fail.
+    /// The run that a plain row stands for: the empty one where the row fails the check.
     pub fn of(row: &Row<E, N>) -> Run<E, N>
         ensures { counts result.row ≡ (form_of E.Ord.cmp E.Element.blank row.now).items }
     {
         Run::checked(row).unwrap_or(Run { row: Row::empty() })
     }
 
-    // The union of two runs, the greatest of it cut where the places are too few.
+    /// The N-union of two runs: the N least elements found in either, or all where there are fewer.
     pub fn joined(&self, other: &Run<E, N>) -> Run<E, N>
         ensures { counts result.row ≡ union_of E.Ord.cmp N (counts self.now.row) (counts other.now.row) }
     {
@@ -103,7 +102,7 @@ impl<E: Fresh, const N: usize> Run<E, N> {
         }
     }
 
-    // The join of what two rows stand for.
+    /// The N-union of the runs that two plain rows stand for.
     pub fn of_both(one: &Row<E, N>, other: &Row<E, N>) -> Run<E, N>
         ensures { form_of E.Ord.cmp E.Element.blank result.row ≡ joined_runs E.Ord.cmp N (form_of E.Ord.cmp E.Element.blank one.now) (form_of E.Ord.cmp E.Element.blank other.now) }
     {

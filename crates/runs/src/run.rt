@@ -4,7 +4,7 @@ ghost use Rattle.std.specs.List.{list_all};
 
 use crate::element::Element;
 
-// The place of the first element that is not greater than its predecessor; none in a run.
+/// The place of the first element that is not greater than its predecessor; none in a run.
 pub fn fall<E: Element>(items: &[E]) -> Option<usize>
     ensures { result ≡ first_fall E.Ord.cmp items.now }
 {
@@ -18,14 +18,14 @@ pub fn fall<E: Element>(items: &[E]) -> Option<usize>
     None
 }
 
-// Whether each place is as an unused one.
+/// Whether every place is as an unused one.
 pub fn all_blank<E: Element>(items: &[E]) -> bool
     ensures { result ≡ list_all E.Element.blank items.now }
 {
     items.iter().all(|x| x.is_blank())
 }
 
-// The check of a plain row: its first `count` places are a run, and the others are unused.
+/// The check of a plain row: whether its first `count` places are a run, and the others are unused.
 pub fn is_run_row<E: Element>(count: usize, places: &[E]) -> bool
     ensures { result ≡ is_run_row E.Ord.cmp E.Element.blank count places.now }
 {

@@ -50,7 +50,8 @@ fn advance<'a, E: Element>(a: &'a [E], b: &'a [E]) -> Option<Step<'a, E>>
     }
 }
 
-// Writes the k-union of `a` and `b` at the front of `out`, which has k places, and answers how many elements it has.
+/// Writes the k-union of the runs `a` and `b` at the front of `out`, which has k places, and answers how many elements it has;
+/// the other places stay. The k-union has the k least elements found in either, or all where there are fewer.
 pub fn union<E: Element>(a: &[E], b: &[E], out: &mut [E]) -> usize
     ensures count { result ≡ length (union_of E.Ord.cmp (length out.old) a.now b.now) }
     ensures value { take result out.new ≡ union_of E.Ord.cmp (length out.old) a.now b.now }

@@ -3,8 +3,7 @@ ghost use Rattle.std.proofs.Common.{rules};
 
 use crate::element::Element;
 
-// Numbers of 32 bits are elements because what a frame holds is one (`Record` stands above `Element`); 0 where unused. No
-// plainer as one with that of 64 bits: for both it would be a trait of numbers and an impl of that for each, as long as these.
+// Numbers of 32 bits, as maps are: elements because `Record` asks for it; 0 where unused.
 impl Element for u32 {
     ghost blank = { λ x. (x == 0) };
 

@@ -10,8 +10,6 @@ use runs::row::Row;
 use synopsis::fault::{DecodeFault, EncodeFault};
 use synopsis::kind::Synopsis;
 
-// Each kind has these calls of its own, a line or two for each: an impl for every row at once would owe, at each call of a
-// Run, that this has fewer than 2^63 bytes, of which a proof knows nothing for a row of any element.
 impl Synopsis for Sample {
     const NUMBER: u8 = 3;
 

@@ -13,11 +13,14 @@ use std::cmp::Ordering;
 // How many bytes a record has in a frame.
 const WIDTH: usize = 20;
 
-// A reading in a sample: not the reading's own type, which may gain parts that no sample keeps.
+/// What a sample keeps of a reading. Records are ordered by the hash of the reading, then by item, tenant and amount.
 #[derive(Clone, Copy, PartialEq, Eq, Default, Debug)]
 pub struct SampleRecord {
+    /// which client
     pub item: u64,
+    /// whose client it is
     pub tenant: u32,
+    /// how much it used
     pub amount: u64,
 }
 
@@ -34,7 +37,7 @@ impl From<Reading> for SampleRecord {
     }
 }
 
-// The reading that a record keeps: the other way round, part by part as well.
+// The reading that a record keeps.
 impl From<SampleRecord> for Reading {
     ghost from_gives = { λ kept r. r ≡ reading_of kept };
 
@@ -48,7 +51,7 @@ impl From<SampleRecord> for Reading {
 }
 
 impl SampleRecord {
-    // The hash of the reading that the record keeps.
+    /// The hash of the reading that the record keeps.
     pub fn hash(self) -> u64
         ensures { result ≡ hash_of (reading_of self) }
     {
@@ -63,7 +66,7 @@ impl SampleRecord {
     }
 }
 
-// By hash, then item, tenant and amount. No derive: the hash is no field.
+// By hash, then item, tenant and amount.
 impl Ord for SampleRecord {
     ghost cmp = { by_hash };
 

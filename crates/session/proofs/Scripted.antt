@@ -14,11 +14,11 @@ use Rattle.sample.specs.Sample.{sample_kind}
 use Rattle.layers.specs.Pairs.{pair_kind}
 use Rattle.histories.specs.declared.Call.{Call}
 use Rattle.histories.specs.declared.Call.TheVariants.{Generate, Arrive, Send, Deliver, Drop, Read}
-use Rattle.histories.specs.Deeds.{Gift, deed_of, History}
+use Rattle.histories.specs.Deeds.{Contribution, deed_of, History}
 use Rattle.histories.specs.Search.{filled, Sound}
 use Rattle.histories.specs.Folds.{node_form, Came}
 use Rattle.histories.proofs.Finding.{found, complete}
-use Rattle.histories.proofs.Folding.{same_gifts}
+use Rattle.histories.proofs.Folding.{same_contributions}
 use Rattle.diffusion.specs.Turns.{Told, done, bytes, refused, is_accepted}
 use Rattle.diffusion.specs.Owed.{owes, refused_if}
 use Rattle.diffusion.proofs.Promising.{read_owed}
@@ -139,14 +139,14 @@ read_gives l nodes h n bs r =
     read_owed (kind_of_letter l) nodes h (whole (Read n room)) n room bs refl (sym (ap (ask_owes (opened l nodes h)) r.2) ∙ r.3)
 
 agree : (script script' : List (List ℕ)) (l : KindLetter) (nodes nodes' : ℕ) (h h' : History) → stands closed script ≡ opened l nodes h → stands closed script' ≡ opened l nodes' h'
-    → (n n' : ℕ) → ((g : Gift) → Came h n g → Came h' n' g) → ((g : Gift) → Came h' n' g → Came h n g)
+    → (n n' : ℕ) → ((g : Contribution) → Came h n g → Came h' n' g) → ((g : Contribution) → Came h' n' g → Came h n g)
     → (bs bs' : List ℕ) → ReadGives (opened l nodes h) n bs → ReadGives (opened l nodes' h') n' bs' → bs ≡ bs'
 agree script script' l nodes nodes' h h' e e' n n' there back bs bs' r r' =
     let k = kind_of_letter l in
     let ok : Sound h = subst SoundAt e (sound_stands closed script tt) in
     let ok' : Sound h' = subst SoundAt e' (sound_stands closed script' tt) in
     read_gives l nodes h n bs r
-    ∙ ap k.encoding (same_gifts k (letter_laws l) h h' n n' (found h) (λ m t p. complete h m t ok p) (found h') (λ m t p. complete h' m t ok' p) there back)
+    ∙ ap k.encoding (same_contributions k (letter_laws l) h h' n n' (found h) (λ m t p. complete h m t ok p) (found h') (λ m t p. complete h' m t ok' p) there back)
     ∙ sym (read_gives l nodes' h' n' bs' r')
 
 pub script_laws : ScriptLaws

@@ -8,7 +8,7 @@ use Rattle.histories.specs.declared.Call.TheVariants.{Generate, Arrive, Send, De
 use Rattle.histories.specs.declared.Turn.{Turn}
 use Rattle.histories.specs.Deeds.{Deed, deed_of, deed, History}
 use Rattle.histories.specs.Folds.{node_form}
-use Rattle.network.specs.Calls.{unless, served, value_form}
+use Rattle.network.specs.Calls.{unless, with_enough_lent, value_form}
 use Rattle.network.proofs.Refusing.{not_refused}
 use Rattle.diffusion.specs.Turns.{Told, done, bytes, refused, is_accepted}
 use Rattle.diffusion.specs.Runs.{Rack, formed, rack_tells, Step, Opened, Ran, begun, then}
@@ -43,7 +43,7 @@ deed_seen (Read n room) = refl
 -- an accepted OPEN was lent values for its nodes
 opened_lent : {S : Type 0} (k : Kind) (form : S → k.Form) (nodes : ℕ) (values : List S) (memory : List ℕ) (first : Rack S) → Opened k form nodes values memory first → nodes ≤ length values
 opened_lent k form nodes values memory first o =
-    let a = not_refused (ltb nodes 1 || ltb 16 nodes) 1 (served k nodes (length values) (length memory) (Ok tt)) (sym o.accepted) in
+    let a = not_refused (ltb nodes 1 || ltb 16 nodes) 1 (with_enough_lent k nodes (length values) (length memory) (Ok tt)) (sym o.accepted) in
     let b = not_refused (ltb (length values) nodes || ltb (length memory) 65536) 2 (unless (overlong k) 3 (Ok tt)) a.1 in
     ltb-false (length values) nodes (or_parts (ltb (length values) nodes) (ltb (length memory) 65536) b.0).0
 

@@ -2,7 +2,7 @@
 use Rattle.std.specs.Prelude.{◌≡◌, ℕ, ◌<◌, ◌≤◌, false, List, ◌∷◌, ◌++◌, length, take, Ok, slice_index_or}
 use Rattle.std.specs.List.{remove}
 use Rattle.histories.specs.declared.Call.TheVariants.{Read}
-use Rattle.histories.specs.Deeds.{Gift, History}
+use Rattle.histories.specs.Deeds.{Contribution, History}
 use Rattle.histories.specs.Folds.{Came}
 use Rattle.diffusion.specs.Turns.{Told, done, bytes, is_accepted}
 use Rattle.script.specs.declared.ask.KindLetter.{KindLetter}
@@ -35,5 +35,5 @@ pub record ScriptLaws : Type 0 where
   -- after any two scripts on networks of one kind, nodes with equal sets of contributions are read as the same bytes
   pub agree : (script script' : List (List ℕ)) (l : KindLetter) (nodes nodes' : ℕ) (h h' : History)
       → stands closed script ≡ opened l nodes h → stands closed script' ≡ opened l nodes' h'
-      → (n n' : ℕ) → ((g : Gift) → Came h n g → Came h' n' g) → ((g : Gift) → Came h' n' g → Came h n g)
+      → (n n' : ℕ) → ((g : Contribution) → Came h n g → Came h' n' g) → ((g : Contribution) → Came h' n' g → Came h n g)
       → (bs bs' : List ℕ) → ReadGives (opened l nodes h) n bs → ReadGives (opened l nodes' h') n' bs' → bs ≡ bs'

@@ -5,7 +5,7 @@ ghost use Rattle.usage.specs.Pages.{page_by};
 use crate::paged::Paged;
 use bitmaps::maps::Bitmaps;
 use least::row::LeastValues;
-use pile::StandardPile;
+use usage::pile::StandardPile;
 use sample::row::Sample;
 use synopsis::kind::LONGEST;
 use usage::page::usage;

@@ -21,7 +21,7 @@ use diffusion::answer::Answer;
 use least::row::LeastValues;
 use network::calls::MEMORY;
 use network::table::{NODES, Network};
-use pile::StandardPile;
+use usage::pile::StandardPile;
 use sample::row::Sample;
 use script::ask::{KindLetter, Request, Stage, read_line};
 use script::fault::LineFault;

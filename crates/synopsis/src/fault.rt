@@ -4,27 +4,27 @@ ghost use Rattle.synopsis.specs.Faults.{reason_number, encode_number, fault, fau
 use std::error::Error;
 use std::fmt;
 
-// Why bytes are refused as a frame.
+/// Why bytes are refused as a frame.
 #[derive(Clone, Copy, PartialEq, Eq, Debug)]
 pub enum Reason {
-    // the kind has forms too long for any frame
+    /// the kind has forms too long for any frame
     Overlong = 3,
-    // fewer bytes than a header has
+    /// fewer bytes than a header has
     Short = 9,
-    // the number of another kind
+    /// the number of another kind
     OtherKind = 10,
-    // a count that the kind does not have
+    /// a count that the kind does not have
     Count = 11,
-    // an end that disagrees with the bytes or with the count
+    /// an end that disagrees with the bytes or with the count
     End = 12,
-    // a record that is not greater than its predecessor
+    /// a record that is not greater than its predecessor
     Order = 13,
-    // no place for a second side
+    /// no place for a second side
     Offset = 14,
 }
 
 impl Reason {
-    // The number of the refusal: a method, since `u8::from(reason)` would not say which number of it.
+    /// The number of the refusal: 3, or 9 to 14.
     pub fn number(self) -> u8
         ensures { result ≡ reason_number self }
     {
@@ -32,17 +32,19 @@ impl Reason {
     }
 }
 
-// What is wrong with bytes that are no frame: why, at which byte, and the number of the kind that refused them; no enum, since
-// any type may be a kind.
+/// What is wrong with bytes that are no frame. It prints its number, place and kind.
 #[derive(Clone, Copy, PartialEq, Eq, Debug)]
 pub struct DecodeFault {
+    /// why the bytes are refused
     pub reason: Reason,
+    /// the byte at which that shows, at most the number of bytes
     pub place: usize,
+    /// the number of the kind that refused them; in a pair that may be a side's
     pub kind: u8,
 }
 
 impl DecodeFault {
-    // The fault of bytes that the kind of this number refuses, for a reason that shows at this place.
+    /// The fault of bytes that the kind of this number refuses, for a reason that shows at this place.
     pub fn new(reason: Reason, place: usize, kind: u8) -> DecodeFault
         ensures { result ≡ fault reason place kind }
     {
@@ -54,7 +56,6 @@ impl DecodeFault {
     }
 }
 
-// By hand, here and below: of the text that a derive of `thiserror` writes no contract says what it is.
 impl fmt::Display for DecodeFault {
     ghost output = { λ e. Some (fault_text e) };
 
@@ -71,18 +72,17 @@ impl fmt::Display for DecodeFault {
 
 impl Error for DecodeFault {}
 
-// Why no frame is written.
+/// Why no frame is written. It prints its number.
 #[derive(Clone, Copy, PartialEq, Eq, Debug)]
 pub enum EncodeFault {
-    // the kind has forms too long for any frame
+    /// the kind has forms too long for any frame
     Overlong = 3,
-    // fewer bytes than the encoding has
+    /// fewer bytes than the encoding has
     Room = 8,
 }
 
 impl EncodeFault {
-    // The number of the refusal. No plainer as one with a reason's: each contract names the definition of its own numbers, and
-    // a trait for both would be longer than the two lines.
+    /// The number of the refusal: 3 or 8.
     pub fn number(self) -> u8
         ensures { result ≡ encode_number self }
     {

@@ -4,18 +4,19 @@ ghost use Rattle.synopsis.specs.Kind.{Kind, Laws, overlong, frame_length, encode
 use crate::fault::{DecodeFault, EncodeFault};
 use readings::Reading;
 
-// How many bytes a frame has at most: a kind that may need more is overlong.
+/// How many bytes a frame has at most. A kind that may need more is overlong.
 pub const LONGEST: usize = 2048;
 
-// What the lengths of an overlong kind answer: a number that no frame has, since LENGTH answers a number and no Option by rule.
+/// What `length` and `greatest_length` answer for an overlong kind: one byte more than any frame has.
 pub const OVERLONG: usize = LONGEST + 1;
 
-// A synopsis: a small mergeable summary of readings, of one kind.
+/// A synopsis: a small mergeable summary of readings. Each type that implements the trait is a kind, and proves the laws of a
+/// kind: the join is associative, commutative and idempotent with the empty form as unit, and encodings tell forms apart.
 pub trait Synopsis: Sized + Drop {
     // what the kind means
     ghost kind: { Kind };
 
-    // the kind number, in code and in clauses; `kind_number` answers it, since a clause needs a call to be said of
+    /// the kind number, the first byte of each of its frames
     const NUMBER: u8;
 
     ghost NUMBER: { ℕ };
@@ -23,46 +24,48 @@ pub trait Synopsis: Sized + Drop {
     // the form of a value
     ghost form: { Self → kind.Form };
 
-    // The kind number.
+    /// The kind number, as a call that contracts can speak of.
     final fn kind_number() -> u8
         ensures { result ≡ kind.number }
     {
         Self::NUMBER
     }
 
-    // The greatest length of an encoding; 2,049 for an overlong kind.
+    /// The greatest length of an encoding, in bytes; 2,049 for an overlong kind.
     fn greatest_length() -> usize
         ensures { result ≡ kind.greatest };
 
-    // Whether the kind has forms too long for any frame.
+    /// Whether the kind has forms too long for any frame.
     fn is_overlong() -> bool
         ensures { result ≡ overlong kind }
     {
         Self::greatest_length() > LONGEST
     }
 
-    // EMPTY
+    /// EMPTY: a value that has counted nothing.
     fn empty() -> Self
         ensures { form result ≡ kind.none };
 
-    // MAKE
+    /// MAKE: a value that has counted one reading.
     fn make(reading: Reading) -> Self
         ensures { form result ≡ kind.single reading };
 
-    // FUSE: the join of both, here.
+    /// FUSE: joins another value into this one.
     fn fuse(&mut self, other: &Self)
         ensures { form self.new ≡ kind.join (form self.old) (form other.now) };
 
-    // LENGTH: of the encoding, or 2,049.
+    /// LENGTH: the length of the encoding, in bytes; 2,049 for an overlong kind.
     fn length(&self) -> usize
         ensures { result ≡ frame_length kind (form self.now) };
 
-    // ENCODE: the encoding at the front of `out`, and its length.
+    /// ENCODE: writes the encoding at the front of `out`, and answers its length in bytes; the other bytes stay. It refuses with
+    /// `Overlong` every value of an overlong kind, then with `Room` fewer bytes than the encoding has; then all bytes stay.
     fn encode(&self, out: &mut [u8]) -> Result<usize, EncodeFault>
         ensures answer { result ≡ encode_answer kind (form self.now) (length out.old) }
         ensures after { out.new ≡ encode_after kind (form self.now) out.old };
 
-    // DECODE: the form that the bytes encode, here; on a refusal the value stays.
+    /// DECODE: gives the value the form that the bytes encode. Bytes that are no encoding of the kind are refused, with a fault
+    /// that depends on the bytes alone; then the value stays.
     fn decode(&mut self, frame: &[u8]) -> Result<(), DecodeFault>
         ensures { Decoded kind form frame.now self.old self.new result };
 

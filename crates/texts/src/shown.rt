@@ -1,7 +1,6 @@
-// Bytes as text: by digits and not by `{:02X}`, of which a proof knows no text.
+// Bytes as capital hex pairs.
 ghost use Rattle.std.specs.Prelude.{◌≡◌, ◌<◌, Some, slice_index};
 ghost use Rattle.hex.specs.Hex.{upper_digits, encode_upper};
-ghost use Rattle.texts.specs.Texts.{hex_text};
 
 use std::fmt;
 
@@ -14,7 +13,7 @@ fn digit(n: u8) -> char
     char::from(b"0123456789ABCDEF"[usize::from(n)])
 }
 
-// Bytes that are shown as capital hex pairs.
+/// Bytes that print themselves as capital hex pairs, two digits a byte; no bytes print nothing.
 #[derive(Clone, Copy)]
 pub struct Pairs<'a>(pub &'a [u8]);
 
@@ -28,20 +27,5 @@ impl fmt::Display for Pairs<'_> {
             write!(f, "{high}{low}")?;
         }
         Ok(())
-    }
-}
-
-// Bytes that are shown so, or by a dash where there are none.
-#[derive(Clone, Copy)]
-pub struct Hex<'a>(pub &'a [u8]);
-
-impl fmt::Display for Hex<'_> {
-    ghost output = { λ h. Some (hex_text h.0.now) };
-
-    fn fmt<W: fmt::Write>(&self, f: &mut fmt::Formatter<W>) -> fmt::Result {
-        if self.0.is_empty() {
-            return f.write_str("-");
-        }
-        Pairs(self.0).fmt(f)
     }
 }

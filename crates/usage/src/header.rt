@@ -4,7 +4,7 @@ ghost use Rattle.usage.specs.Pages.{header_cells, header_bytes, header_width, he
 use crate::cell::{Cell, put_cells};
 use crate::row::{COLUMNS, WIDTH};
 use least::row::LeastRun;
-use pile::StandardPile;
+use crate::pile::StandardPile;
 
 /// How many bytes a header has; the first row follows.
 pub const HEADER: usize = 32;
@@ -37,7 +37,6 @@ impl Header {
         ensures { result ≡ header_for (pile_form value.now) rows }
     {
         let least = LeastRun::of(&value.second.first.row);
-        // By `as`: all of these are small here, and `try_from` would answer a refusal that never comes.
         Header {
             rows: rows as u16,
             columns: COLUMNS as u16,

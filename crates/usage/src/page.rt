@@ -8,7 +8,7 @@ use crate::fault::PageFault;
 use crate::header::{HEADER, Header};
 use crate::row::{Row, WIDTH};
 use arrayvec::ArrayVec;
-use pile::StandardPile;
+use crate::pile::StandardPile;
 use sample::record::SampleRecord;
 use sample::row::SampleRun;
 

@@ -1,6 +1,4 @@
-// Piles: layers over the three kinds.
-#![tactic(auto)]
-
+// Piles: pairs over the three kinds.
 ghost use Rattle.std.specs.Prelude.{◌≡◌};
 
 use bitmaps::maps::Bitmaps;
@@ -9,13 +7,14 @@ use least::row::LeastValues;
 use sample::row::Sample;
 use synopsis::kind::Synopsis;
 
-// The standard pile, which the hosts of a rack pass to each other.
+/// The standard pile, which the hosts of a rack pass to each other: bitmaps, least values and a sample, in a frame of 1,432 bytes
+/// at most.
 pub type StandardPile = Pair<Bitmaps, Pair<LeastValues, Sample>>;
 
-// Four samples in three pairs: an overlong pile, with forms too long for any frame.
+/// Four samples in three pairs: an overlong pile, which every network refuses.
 pub type FourSamples = Pair<Pair<Sample, Sample>, Pair<Sample, Sample>>;
 
-// The greatest lengths of the two: the first fits in a slot, the second is cut.
+/// The greatest lengths of the two, in bytes: 1,432, and 2,049 for the overlong one.
 pub fn greatest_lengths() -> (usize, usize)
     ensures { result ≡ (1432, 2049) }
 {

@@ -1,4 +1,0 @@
-pub mod Cases
-pub mod Hashes
-pub mod Outcomes
-pub mod Values

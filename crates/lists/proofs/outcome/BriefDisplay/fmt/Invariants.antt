@@ -1,8 +1,0 @@
-use Rattle.std.proofs.Common.{take}
-use Rattle.std.specs.Fmt.{HasWritten, IsPlainFormatter}
-use Rattle.lists.specs.Texts.{answers_text}
-use Rattle.lists.proofs.outcome.BriefDisplay.fmt.Given as goal
-
--- the answers so far are written
-abbrev pub invariant-loop-answer : goal.invariant-loop-answer
-invariant-loop-answer g l = IsPlainFormatter l.initial.f → HasWritten g.W.Write.write_str_gives l.initial.f (answers_text (take l.answer-index l.answer-items)) l.f
