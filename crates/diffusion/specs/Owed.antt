@@ -39,7 +39,7 @@ module _ (k : Kind) (nodes : ℕ) where
   call_owes h (Drop s) = at_slot s (cond (filled h s) done (refused 6 None))
   call_owes h (Read n room) = at_node n (refused_if (nat_lt room (length (k.encoding (node_form k h n)))) 8 (bytes (k.encoding (node_form k h n))))
 
-  -- first, whether enough values and memory were brought
+  -- first, whether enough values and memory were lent
   abbrev pub owes : History → Turn → Told
   owes h t = refused_if (nat_lt t.values nodes || nat_lt t.bytes memory_bytes) 2 (call_owes h t.call)
 

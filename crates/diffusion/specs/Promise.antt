@@ -1,4 +1,4 @@
--- The promise over runs, for one kind: of every network of it, every node count, whatever values and memory were brought, and
+-- The promise over runs, for one kind: of every network of it, every node count, whatever values and memory were lent, and
 -- every list of turns.
 use Rattle.std.specs.Prelude.{◌≡◌, ℕ, ◌+◌, ◌<◌, ◌≤◌, true, false, ◌⊎◌, List, [], ◌++◌, map, length, take, drop, Option, slice_index, slice_index_or}
 use Rattle.synopsis.specs.Kind.{Kind}
@@ -61,10 +61,10 @@ module _ {S : Type 0} (k : Kind) (form : S → k.Form) where
     pub lies : (s : ℕ) → s < slot_count → filled h s ≡ true → slot_frame last.memory s (slice_index_or last.net.slots s no_slot) ≡ k.encoding (slot_form k h s)
     -- a refused turn leaves the table, every value and every byte as it was, and has no part in any path
     pub still : (t : Turn) (after : Rack S) (number : ℕ) (at : Option (ℕ × ℕ)) → Step k form last t after → rack_tells k form last t ≡ refused number at → (after ≡ last) × (deed t.call false ≡ nothing)
-    -- the network has its nodes, and there are as many values as were brought
+    -- the network has its nodes, and there are as many values as were lent
     pub count : last.net.count ≡ nodes
     pub many : length last.values ≡ length values
-    -- values beyond the nodes, and memory outside the slots that were sent into, are the very same as brought
+    -- values beyond the nodes, and memory outside the slots that were sent into, are the very same as lent
     pub beyond : drop nodes last.values ≡ drop nodes values
     pub outside : SameOutside h memory last.memory
 

@@ -49,7 +49,7 @@ module _ {S : Type 0} (k : Kind) (form : S → k.Form) where
     then : {ts : List Turn} {ws : List Told} {h : History} {r : Rack S} → Ran first ts ws h r → (t : Turn) (after : Rack S) → Step r t after
         → Ran first (ts ++ t ∷ []) (ws ++ rack_tells r t ∷ []) (deed t.call (is_accepted (rack_tells r t)) ∷ h) after
 
--- what a list of turns came to, with values and memory as they were brought: OPEN was accepted, and from what it left so many
+-- what a list of turns came to, with values and memory as they were lent: OPEN was accepted, and from what it left so many
 -- of the first turns were made as there are answers
 pub record Made {S : Type 0} (k : Kind) (form : S → k.Form) (nodes : ℕ) (values : List S) (memory : List ℕ) (turns : List Turn) (told : List Told) (last : Rack S) : Type 0 where
   pub first : Rack S

@@ -52,7 +52,7 @@ module _ (k : Kind) where
   abbrev pub form_of : State k → ℕ → k.Form
   form_of st n = slice_index_or st.forms n k.none
 
-  -- what a call tells, brought so many values and so many bytes
+  -- what a call tells, lent so many values and so many bytes
   abbrev pub call_tells : State k → (values memory : ℕ) → Call → Told
   call_tells st v m (Generate n r) = plainly (generate_answer k st.net v m n)
   call_tells st v m (Arrive n frame) = plainly (arrive_answer k st.net v m n frame.now)
@@ -61,7 +61,7 @@ module _ (k : Kind) where
   call_tells st v m (Drop s) = plainly (drop_answer k st.net v m s)
   call_tells st v m (Read n room) = with_bytes (k.encoding (form_of st n)) (read_answer k st.net v m n (form_of st n) room)
 
-  -- a turn brings a front part of the values and of the memory
+  -- a turn lends a front part of the values and of the memory
   abbrev pub turn_tells : State k → Turn → Told
   turn_tells st t = call_tells st (min t.values (length st.forms)) (min t.bytes (length st.memory)) t.call
 
@@ -90,7 +90,7 @@ module _ (k : Kind) where
 abbrev pub state_of : {S : Type 0} (k : Kind) → (S → k.Form) → Table → List S → List ℕ → State k
 state_of k form net values memory = record { net = net; forms = map form values; memory = memory }
 
--- what a call, brought exactly these values and this memory, leaves
+-- what a call, lent exactly these values and this memory, leaves
 abbrev pub call_after : (k : Kind) → State k → Told → Call → State k
 call_after k st told call = cond (is_accepted told) (call_leaves k st call) st
 

@@ -63,7 +63,7 @@ fn make_call<'r, S: Synopsis>(
     })
 }
 
-// Makes one turn: its call, brought a front part of the values and of the memory. A READ puts its bytes into the room.
+// Makes one turn: its call, lent a front part of the values and of the memory. A READ puts its bytes into the room.
 pub(crate) fn answer_turn<'r, S: Synopsis>(
     network: &mut Network,
     values: &mut [S],
@@ -85,7 +85,7 @@ pub(crate) fn answer_turn<'r, S: Synopsis>(
     )
 }
 
-/// Makes one turn, and tells its answer: its call is brought a front part of the values and of the memory, as much of them as
+/// Makes one turn, and tells its answer: its call is lent a front part of the values and of the memory, as much of them as
 /// the turn says. The turn is made whatever the listener answers, whose error is the only one.
 pub fn make_turn<S: Synopsis, L: Listener>(
     network: &mut Network,

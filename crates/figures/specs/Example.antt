@@ -12,7 +12,7 @@ use Rattle.diffusion.specs.Turns.{Told, done, bytes, refused}
 use Rattle.diffusion.specs.Runs.{Rack, Opened, Ran}
 use Rattle.diffusion.specs.Owed.{due, past}
 
--- a turn that is brought all that it needs
+-- a turn that is lent all that it needs
 abbrev turn : Call → Turn
 turn call = record { values = 2; bytes = 65536; call = call }
 

@@ -45,12 +45,12 @@ module _ (k : Kind) where
   accepted (Ok x) = Ok tt
   accepted (Err e) = Err (of_synopsis e)
 
-  -- how many nodes there are or are to be, and how many values and bytes are brought: what every call refuses before it
+  -- how many nodes there are or are to be, and how many values and bytes are lent: what every call refuses before it
   -- looks at its node and slot
   abbrev pub with_enough_lent : {A : Type 0} → ℕ → ℕ → ℕ → Result A NetworkFault → Result A NetworkFault
   with_enough_lent nodes values bytes rest = unless (nat_lt values nodes || nat_lt bytes memory_bytes) 2 (unless (overlong k) 3 rest)
 
-  -- a network, how many values and how many bytes it is brought
+  -- a network, how many values and how many bytes it is lent
   module _ (net : Table) (values bytes : ℕ) where
     -- what every call but OPEN refuses first
     abbrev pub ready : {A : Type 0} → Result A NetworkFault → Result A NetworkFault

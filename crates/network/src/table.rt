@@ -8,7 +8,8 @@ pub const NODES: usize = 16;
 pub const SLOTS: usize = 32;
 
 /// What a network knows of itself: how many nodes it has, none until it is opened, and what lies in each slot that is
-/// filled. Values and memory are the caller's.
+/// filled. Values and memory are the caller's. Nodes that pass synopses to each other over any routes are synopsis diffusion
+/// (Nath, Gibbons, Seshan and Anderson 2004).
 #[derive(Clone, Copy, PartialEq, Eq, Debug)]
 pub struct Network {
     pub(crate) count: usize,

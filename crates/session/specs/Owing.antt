@@ -16,7 +16,7 @@ use Rattle.script.specs.declared.ask.Ask.TheVariants as ask
 use Rattle.script.specs.Faults.{line_number}
 use Rattle.script.specs.Asking.{asked}
 
--- a turn that is brought as many values and bytes as any network asks for
+-- a turn that is lent as many values and bytes as any network asks for
 abbrev pub whole : Call → Turn
 whole c = record { values = most_nodes; bytes = memory_bytes; call = c }
 

@@ -48,7 +48,7 @@ fn page_of<'a, S: Paged>(
     }
 }
 
-// What is said to a line that asks for this. A call is brought all that any network asks for.
+// What is said to a line that asks for this. A call is lent all that any network asks for.
 fn say_answer<S: Paged>(
     network: &mut Network,
     values: &mut [S],
