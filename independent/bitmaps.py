@@ -57,8 +57,5 @@ class Bitmaps(Kind):
         w, j = divmod(q, 8)
         return root(j + 48) * 2**w * 100000 // 77351
 
-    def figures(self, maps):
-        return [self.total(maps), self.estimate(maps)]
-
 
 BITMAPS = Bitmaps()

@@ -2,9 +2,12 @@
 
 import hashlib
 
-from readings import WORD, Reading
+from readings import STEP, WORD, Reading, hash_of
 
 TOP = WORD - 1
+
+# a map with all bits
+FULL = 2**32 - 1
 
 
 class Draws:
@@ -52,6 +55,11 @@ def readings_like(name, count):
     return [Reading(sized(32), draws.word(), sized(64)) for _ in range(count)]
 
 
+def sample_order(readings):
+    """Readings in the order of a sample's records."""
+    return sorted(readings, key=lambda r: (hash_of(r.item), r.item, r.tenant, r.amount))
+
+
 def item_with(hash_value):
     """The item that has this hash: SplitMix64's output step taken back."""
 
@@ -64,12 +72,34 @@ def item_with(hash_value):
     z = unshifted(hash_value, 31)
     z = unshifted(z * pow(0x94D049BB133111EB, -1, WORD) % WORD, 27)
     z = unshifted(z * pow(0xBF58476D1CE4E5B9, -1, WORD) % WORD, 30)
-    return (z - 0x9E3779B97F4A7C15) % WORD
+    return (z - STEP) % WORD
 
 
 def item_marked(bucket, rank, odd=1):
     """An item with this mark; `odd` tells those apart that have the same."""
     return item_with((bucket + 64 * (odd << rank)) % WORD)
+
+
+def together(total):
+    """How many low bits of each map are set where the lowest zero bits' positions sum to this: as many full maps as
+    can be, in front."""
+    return [min(32, max(0, total - 32 * at)) for at in range(64)]
+
+
+def spread(total):
+    """The same, as even as can be."""
+    return [total // 64 + (at < total % 64) for at in range(64)]
+
+
+def plain(lengths):
+    """Maps with so many low bits, and none above."""
+    return [2**length - 1 for length in lengths]
+
+
+def littered(name, lengths):
+    """The same maps, with drawn bits above their lowest zero bit."""
+    draws = Draws(name)
+    return [2**length - 1 | draws.below(2**32) & FULL << (length + 1) for length in lengths]
 
 
 def telling_words():

@@ -26,8 +26,8 @@ class LeastValues(RunKind):
         upper = run[-1] // 2**32
         return 63 * 2**32 // (upper + 1)
 
-    def figures(self, run):
-        return [self.estimate(run)]
+    def figure(self, run):
+        return self.estimate(run)
 
 
 LEAST = LeastValues()

@@ -16,6 +16,9 @@ SLOTS = 32
 MEMORY = 32 * 2048
 ALL = 2**64 - 1
 
+# room that every frame fits
+ROOM = 2048
+
 
 class Open(NamedTuple):
     nodes: int
@@ -224,15 +227,3 @@ def compare(state, paths):
         assert state.form_at(node) == paths.form_at(node), node
     for slot in range(SLOTS):
         assert state.is_filled(slot) == paths.is_filled(slot), slot
-
-
-def answers(kind, values, memory, turns):
-    """What the turns answer, after both ways were seen to agree on each and on all nodes."""
-    state, paths = ByState(kind, values, memory), ByPaths(kind, values, memory)
-    found = []
-    for turn in turns:
-        one, other = state.answer(turn), paths.answer(turn)
-        assert one == other, (turn, one, other)
-        found.append(one)
-    compare(state, paths)
-    return found

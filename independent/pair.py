@@ -41,9 +41,6 @@ class Pair(Kind):
             raise Refused(14, 4, self.number)
         return part(self.first, frame[:offset], 6), part(self.second, frame, offset)
 
-    def figures(self, form):
-        return self.first.figures(form[0]) + self.second.figures(form[1])
-
 
 def part(kind, data, start):
     """The form of the kind that stands in the data from `start` on."""

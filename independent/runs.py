@@ -7,7 +7,8 @@ from kinds import Kind, Refused
 
 
 class RunKind(Kind):
-    """A kind of runs adds `most`, `width`, `written` (an element's bytes) and `read` (their element)."""
+    """A kind of runs adds `most`, `width`, `written` (an element's bytes), `read` (their element) and `figure` (what a
+    run tells: the estimate, or how many records it has)."""
 
     empty = []
 

@@ -24,8 +24,8 @@ class Sample(RunKind):
         item, tenant, amount = (int.from_bytes(part, "big") for part in (data[:8], data[8:12], data[12:]))
         return hash_of(item), item, tenant, amount
 
-    def figures(self, run):
-        return [len(run)]
+    def figure(self, run):
+        return len(run)
 
 
 SAMPLE = Sample()

@@ -10,11 +10,11 @@ import sys
 sys.dont_write_bytecode = True
 
 from fields import is_below, is_number, is_pairs
-from network import MEMORY, MOST_NODES, ByPaths, ByState, No, Open, Turn, compare
+from network import (MEMORY, MOST_NODES, ROOM, Arrive, ByPaths, ByState, Deliver, Drop, Generate, No, Open, Read, Send,
+                     Turn, compare)
 from page import ROOM as PAGE_ROOM
 from page import usage
 from pair import KINDS, PILE
-from turnlines import LETTERS, ROOM
 
 MOST_INPUT = 65_536
 MOST_PAIRS = 2048
@@ -34,6 +34,9 @@ FIELDS = {
     "r": (32,),
     "u": (32,),
 }
+
+# the calls that a line makes of a network that is open
+CALLS = {"g": Generate, "a": Arrive, "s": Send, "d": Deliver, "x": Drop, "r": Read}
 
 
 def is_of_form(sort, text):
@@ -97,7 +100,7 @@ class Reader:
                 raise No(24)
             return self.page(*values)
         room = [ROOM] if letter == "r" else []
-        return self.network.make(Turn(LETTERS[letter](*values, *room)))
+        return self.network.make(Turn(CALLS[letter](*values, *room)))
 
     def answer(self, line):
         try:

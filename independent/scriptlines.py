@@ -1,5 +1,6 @@
 """The lines of scripts, right and spoiled. A character stands for each byte of a script."""
 
+from frames import shown
 from script import FIELDS
 
 # telling numbers of 32 and of 64 bits, and such as are too great
@@ -19,38 +20,22 @@ NO_PAIRS = ["", "-", "0", "2", "020", "0200000", "020000040", "0200000a", "0x020
 NO_KINDS = ["", "t", "n", "o", "r", "x", "B", "V", "S", "P", "bv", "vv", "bvs", "bvsp", "v ", "2", "-", "\0", "v\0"]
 
 
-def named(letter):
-    """How a kind's letter stands in the names of what is drawn for it."""
-    return f"{letter} script"
+def script(lines, end="\n"):
+    return "\n".join(lines) + end
 
 
-def turns_as_lines(turns):
-    """A list of turns as the lines of a script, which is brought all values and bytes, and reads into all room."""
-    head, *texts = turns.split(";")
-    letter, name, nodes, *_ = head.split(" ")
-    if name == "run":
-        yield f"o {letter} {nodes}"
-    for text in texts:
-        fields = text.partition(" ")[2].split(" ") if text.startswith("@") else text.split(" ")
-        if fields[0] == "o":
-            fields.insert(1, letter)
-        yield " ".join(fields[:2] if fields[0] == "r" else fields)
+def in_parts(many, size):
+    """The many, so many at a time."""
+    many = list(many)
+    return [many[at:at + size] for at in range(0, len(many), size)]
 
 
-def seasoned(draws, letter, lines):
-    """The lines with readings at both ends and with pages, and now and then with an OPEN or a page out of place."""
-    for line in lines:
-        name, *fields = line.split(" ")
-        if name == "g" and draws.below(3) == 0:
-            tenant, item, amount = fields[1:]
-            fields[1:] = [str(draws.pick([tenant, *ENDS_32])), str(draws.pick([item, item, item, *ENDS_64])),
-                          str(draws.pick([amount, *ENDS_64]))]
-        yield " ".join([name, *fields])
-        node = fields[1] if name == "d" else fields[0]
-        if draws.below(60 if letter != "p" else 2 if name == "r" else 8) == 0:
-            yield f"u {node}"
-        if draws.below(100) == 0:
-            yield f"o {letter} 2"
+def told(node, reading):
+    return f"g {node} {reading.tenant} {reading.item} {reading.amount}"
+
+
+def handed(node, frame):
+    return f"a {node} {shown(frame)}"
 
 
 def spoiled(draws, line):
