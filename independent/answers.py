@@ -41,7 +41,7 @@ def refusal(fault):
 
 
 def outcome(kind, data):
-    """What becomes of one of many byte strings."""
+    """The outcome of decoding one of many byte strings."""
     try:
         again = kind.frame(kind.decode(data))
     except Refused as fault:

@@ -10,7 +10,7 @@ TELLING = (0, 1, 2, 7, 0xFFFFFFFE, 0x80000000, 0x7FFFFFFF, FULL, 0x55555555, 0xA
 
 
 def length_cases():
-    """Bodies of other lengths, with their own end and with the right one."""
+    """Bodies of wrong lengths, with the end that fits them and with the end that the kind wants."""
     body = bytes(at % 251 for at in range(600))
     return lines("decode", (packed(1, count, end, body[:length - 4])
                             for length in (4, 5, 8, 132, 256, 259, 260, 261, 264, 516)

@@ -23,7 +23,7 @@ from stored import write_or_compare
 
 FOLDER = Path(__file__).resolve().parent.parent / "crates" / "trials"
 
-# the sorts of each kind's cases, which stand without the kind's letter
+# each kind's cases by sort, without the kind's letter
 SORTS = {
     "v": least_cases.SORTS,
     "b": bitmap_cases.SORTS,
@@ -36,7 +36,7 @@ SORTS = {
 
 
 def bad_fields():
-    """Lines that are of no form whichever kind's letter stands in front."""
+    """Lines that are malformed after the letter of any kind."""
     yield from ("", " ", "nothing", "Kind", "kind 2", "kind ", "item 0000000000000000", "mark 0000000000000000",
                 "outputs 1 1", "lowest 7", "v kind", "decode", "decode ", "decode 0", "decode 020000040",
                 "decode 0200000a", "decode 0x02", "decode --", "decode - -", "all", "all 0", "all 00 00", "cuts",
@@ -75,7 +75,7 @@ def all_cases():
 
 
 def byte_strings(line):
-    """How many byte strings a case brings to DECODE."""
+    """How many byte strings a case decodes."""
     _, verb, text, *_ = (*line.split(" "), "", "")
     length = 0 if text == "-" else len(text) // 2
     return {"decode": 1, "all": 256, "cuts": length + 1, "changes": length}.get(verb, 0)

@@ -1,4 +1,4 @@
-"""Cases about no kind, and those that several kinds have. A kind's cases stand without the kind's letter."""
+"""Cases about no kind, and cases that several kinds share. A kind's cases come without the kind's letter."""
 
 from draws import TOP, Draws, item_with, rare_hashes, readings_like, telling_words
 from frames import damages, hexed, packed, shown
@@ -60,11 +60,11 @@ GENERAL_SORTS = {
 # Cases of several kinds.
 
 def frame_like(kind, name, count):
-    """The frame of so many drawn readings."""
+    """The frame of `count` drawn readings."""
     return kind.frame(kind.join_all(readings_like(name, count)))
 
 
-# telling first bytes of at most three
+# telling first bytes, three at most
 FRONTS = [bytes.fromhex(front) for front in (
     "", "00", "01", "02", "03", "04", "05", "40", "FF",
     "0000", "0140", "0200", "0240", "0300", "0320", "0502", "FFFF",
@@ -73,28 +73,28 @@ FRONTS = [bytes.fromhex(front) for front in (
 
 
 def short_cases(fronts=FRONTS):
-    """No byte, and every last byte behind each of the fronts."""
+    """No bytes, and each front with every byte added."""
     return lines("decode", [b""]) + lines("all", fronts)
 
 
 def header_cases(kinds, counts, highs):
-    """Every last byte behind the first three of a header."""
+    """The first three bytes of a header with every fourth one."""
     return lines("all", (bytes([kind, count, high]) for kind in kinds for count in counts for high in highs))
 
 
 def body_cases(bodies, kinds, counts, ends):
-    """Bodies behind headers that say what is right of them, or is not."""
+    """Bodies after headers that fit them, or do not."""
     return lines("decode", (packed(kind, count, end, body)
                             for body in bodies for kind in kinds for count in counts for end in ends))
 
 
 def damage_cases(kind, frames):
-    """Every sort of damage of these frames, at every level."""
+    """Every sort of damage to these frames, at every level."""
     return lines("decode", dict.fromkeys(wrong for frame in frames for wrong in damages(kind, frame)))
 
 
 def other_kind_cases():
-    """Frames of every kind, each right for its own."""
+    """Correct frames of every kind."""
     return lines("decode", (frame_like(kind, f"other {letter}", count)
                             for letter, kind in KINDS.items() if not kind.is_overlong() for count in (0, 1, 3)))
 
@@ -104,12 +104,12 @@ def change_cases(frames, masks=MASKS):
 
 
 def mended(data):
-    """The bytes with their own count of bytes as their end."""
+    """The bytes with an end that fits their number."""
     return data[:2] + len(data).to_bytes(2, "big") + data[4:]
 
 
 def drawn_damages(kind, letter, count):
-    """Drawn frames with drawn bytes changed, cut off, put in or doubled."""
+    """Drawn frames with drawn bytes changed, removed, inserted or reversed."""
     draws = Draws(f"{letter} damages")
     for i in range(count):
         data = bytearray(frame_like(kind, f"{letter} drawn {i}", draws.below(7)))
@@ -136,7 +136,8 @@ def drawn_damage_cases(kind, letter, count):
 
 
 def encode_cases(kind, letter, counts):
-    """Frames of so many readings into rooms around their lengths, short ones into every room; and one into others."""
+    """Frames of these numbers of readings into rooms around their lengths, short frames into every room up to one byte
+    more; and one frame into other rooms."""
     for count in counts:
         frame = frame_like(kind, f"{letter} rooms {count}", count)
         length = len(frame)
@@ -152,8 +153,8 @@ def row_line(count, body):
 
 
 def row_cases(kind, full, short, body_of):
-    """Plain rows with right counts and others: none, a few elements, and short ones, each with a count one off; and of
-    a full run all, all but the last, and all in wrong orders. `body_of` gives the bytes of elements."""
+    """Plain rows with right and wrong counts: empty, of a few elements, and full; the short ones also with a count one
+    off; and full runs without the last element and in wrong orders. `body_of` gives the bytes of elements."""
     most = kind.most
     counts = (0, 1, 2, most // 2, most - 2, most - 1, most, most + 1, 2 * most, 2**32, 2**63, TOP)
     for elements in ([], full[:3], full):

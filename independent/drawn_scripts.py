@@ -9,7 +9,7 @@ from readings import Reading
 from scriptlines import ENDS_32, ENDS_64, handed, script, spoiled, told
 
 
-# Plans: what is done behind the OPEN, or with it.
+# Plans: each opens a network and adds lines.
 
 def only_draw(maker):
     maker.open()
@@ -38,7 +38,7 @@ def pass_on(maker):
 
 
 def hold_back(maker):
-    """Every slot is delivered long after, when its sender holds more than it sent."""
+    """Slots are delivered long after they were filled, when the sender holds more than it sent."""
     maker.open()
     maker.draw_turns()
     for slot in maker.slots:
@@ -93,7 +93,7 @@ def pass_round(maker):
 
 
 def fill_runs(maker):
-    """Three frames, of which two have together more than a run holds, go from node to node."""
+    """Three frames go from node to node; two of them together have more elements than a run holds."""
     maker.open()
     more = maker.draws.below(25)
     for node, count in enumerate((40 + more, 64 - more, 5)):
@@ -107,7 +107,7 @@ def fill_runs(maker):
         maker.add(f"d {slot} {receiver}")
 
 
-# The sorts: plan, shape, how many nodes are read at the end, and how many scripts there are of v, b, s and p.
+# The sorts: plan, shape, how many nodes are read at the end, and how many scripts there are for v, b, s and p.
 
 SORTS = {
     "few nodes and few slots": (
@@ -134,7 +134,7 @@ SORTS = {
 }
 LETTERS = "vbsp"
 
-# how many scripts have spoiled lines
+# how many scripts with spoiled lines there are for v, b, s and p
 SPOILED = (250, 35, 60, 35)
 
 
@@ -148,7 +148,7 @@ def drawn(letter, name, sort, count):
 
 
 def spoil(letter, lines):
-    """Of some lines something is wrong; the OPEN comes once more where it was spoiled."""
+    """A script of these lines with something wrong in some of them; a spoiled OPEN is repeated correctly."""
     draws = Draws(f"{letter} script, spoiled {lines}")
     found = []
     for line in lines:

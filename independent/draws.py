@@ -1,4 +1,4 @@
-"""Numbers, runs and readings that look drawn by lot, and are the same on every machine."""
+"""Numbers, maps, runs and readings that look random and are the same on every machine."""
 
 import hashlib
 
@@ -11,7 +11,7 @@ FULL = 2**32 - 1
 
 
 class Draws:
-    """What is drawn under a name: from SHA-256 of the name and a count."""
+    """Draws numbers from SHA-256 of a name and a count."""
 
     def __init__(self, name):
         self.name = name
@@ -46,7 +46,7 @@ def run_like(name, count, bits=64):
 
 
 def readings_like(name, count):
-    """Readings of different items, tenants and amounts, of which small and great ones are as likely."""
+    """Readings of different items; small tenants and amounts are as likely as great ones."""
     draws = Draws(name)
 
     def sized(bits):
@@ -61,7 +61,7 @@ def sample_order(readings):
 
 
 def item_with(hash_value):
-    """The item that has this hash: SplitMix64's output step taken back."""
+    """The item that has this hash: the inverse of SplitMix64's output step."""
 
     def unshifted(value, bits):
         found = value
@@ -76,23 +76,22 @@ def item_with(hash_value):
 
 
 def item_marked(bucket, rank, odd=1):
-    """An item with this mark; `odd` tells those apart that have the same."""
+    """An item with this mark; different values of `odd` give different items."""
     return item_with((bucket + 64 * (odd << rank)) % WORD)
 
 
 def together(total):
-    """How many low bits of each map are set where the lowest zero bits' positions sum to this: as many full maps as
-    can be, in front."""
+    """How many low bits to set in each map, so that these numbers sum to `total`: full maps first."""
     return [min(32, max(0, total - 32 * at)) for at in range(64)]
 
 
 def spread(total):
-    """The same, as even as can be."""
+    """The same, spread evenly."""
     return [total // 64 + (at < total % 64) for at in range(64)]
 
 
 def plain(lengths):
-    """Maps with so many low bits, and none above."""
+    """Maps with these numbers of low bits set, and no others."""
     return [2**length - 1 for length in lengths]
 
 
@@ -109,7 +108,7 @@ def telling_words():
 
 
 def rare_hashes():
-    """Hashes of high rank: 29 zeros and more, with each kind of bucket beside them."""
+    """Hashes of high rank, 28 zeros and more, with telling buckets."""
     found = []
     for zeros in range(28, 58):
         for bucket in (0, 1, 47, 63):

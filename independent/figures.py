@@ -17,7 +17,7 @@ from pair import KINDS, PILE
 from readings import STEP, WORD, Reading
 from script import printed
 
-# a full row, of which any last value with these upper bits makes the estimate 126
+# the values of a full frame; with these upper bits the last one makes the estimate 126
 HALF_WAY = "".join(f"7FFFFFFF{low:08X}" for low in range(64))
 
 # case lines and what they give
@@ -62,7 +62,7 @@ PAGES = [
      "00000000" "0001" "0000000000000005" "00000008" "0001" "0000000000000005"),
 ]
 
-# the script of the rules, and what it prints
+# the worked script, and what it prints
 WORKED = b"""o v 2
 g 0 7 0 500
 s 0 3
@@ -82,7 +82,7 @@ WORKED_PRINTS = """1 ok
 
 
 def into_room(size):
-    """What becomes of a room of this many bytes when the empty pile's page is written into it."""
+    """The outcome of writing the empty pile's page into a room of this size."""
     try:
         end, room = usage(PILE.empty, b"x" * size)
     except NotWritten as fault:
@@ -94,7 +94,7 @@ def told_of(maps):
     return BITMAPS.total(maps), BITMAPS.estimate(maps)
 
 
-# other figures: a name, what the rules here give, what is known
+# other figures: a name, what this code gives, what is known
 OTHERS = [
     ("the frame of a reading", LEAST.frame(LEAST.single(Reading(7, 0, 500))).hex().upper(), "0201000CE220A8397B1DCDAF"),
     ("the estimate of a full row", LEAST.estimate([*range(63), 0x7FFFFFFF00000000]), 126),
@@ -105,8 +105,8 @@ OTHERS = [
     ("the 2-union of 1, 3 and 2, 3", TwoLeast().join([1, 3], [2, 3]), [1, 2]),
     ("the standard pile's greatest length", KINDS["p"].greatest, 1432),
     ("four samples in three pairs", KINDS["o"].sum, 2594),
-    ("the script of the rules", printed(WORKED), WORKED_PRINTS.splitlines()),
-    ("the script with no last byte 10", printed(WORKED[:-1]), WORKED_PRINTS.splitlines()),
+    ("the worked script", printed(WORKED), WORKED_PRINTS.splitlines()),
+    ("the worked script with no last byte 10", printed(WORKED[:-1]), WORKED_PRINTS.splitlines()),
     ("a script with no bytes", printed(b""), []),
     ("a page into too little room", into_room(479), 26),
     ("a page into a room", into_room(480), (32, EMPTY_PAGE + "78" * 448)),

@@ -1,4 +1,4 @@
-"""Scripts of lines with wrong forms and numbers, and with every byte. A character stands for each byte."""
+"""Scripts of lines with wrong forms and numbers, and with every byte. Each character is one byte."""
 
 from common_cases import frame_like
 from draws import Draws
@@ -32,19 +32,19 @@ FIELD_LINES = ["r ?", "r ?0", "r 0?", "r? 0", "r?0", "r 1?0", "g 0 7 ? 5", "g 0 
 PAGE_LINES = ["u ?", "u ?0", "u 0?", "u? 0", "u?0"]
 OPEN_LINES = ["o ? 2", "o v ?", "o v 1?", "o v?2", "o?v 2", "o v? 2", "o ?v 2", "o? v 2", "o v 2?"]
 
-# the bytes that can make an OPEN right stand in scripts of their own
+# each byte that can make an OPEN right has a script of its own
 TELLING = "bvspBVSPo0123456789 \n\r\t"
 
 
 def byte_scripts(first, lines, last=()):
-    """Every byte at these places, behind first lines and in front of last ones."""
+    """Every byte at the `?` of these lines, between first lines and last lines."""
     for line in lines:
         for part in in_parts([line.replace("?", byte) for byte in BYTES], 32):
             yield script([*first, *part, *last])
 
 
 def open_byte_scripts():
-    """Every byte at places of an OPEN."""
+    """Every byte at the `?` of OPENs."""
     for line in OPEN_LINES:
         for byte in TELLING:
             yield script([line.replace("?", byte), "g 0 7 0 500", "r 0", "r 1"])
@@ -82,7 +82,7 @@ def number_scripts(letter):
 
 
 def open_scripts(letter):
-    """OPENs of every count, after some that are refused; and once more behind them."""
+    """OPENs of every node count, after some that are refused, and repeated afterwards."""
     for count in range(1, MOST_NODES + 1):
         draws = Draws(f"{letter} script opens {count}")
         refused = [f"o {draws.pick(KIND_LETTERS)} {draws.pick([0, 17, 18, 255, 256, 2**31, 2**32 - 1, 2**32, 10**99])}"
@@ -93,7 +93,7 @@ def open_scripts(letter):
                       "u 0", f"u {count}", draws.pick(refused), f"o {letter} 0", "o", f"o {letter} {count}", "r 0"])
 
 
-# Lines with more than one thing wrong: which of them is told.
+# Lines with more than one thing wrong: only the first is reported.
 ORDER_LINES = [
     "q 0 0", "G 0 0 0 0", " g 4294967296 0 0 0", "", "\r", "\r\r", "o v 2 ", "o v 0", "o", "o z 99999999999",
     "o v 4294967296", "g 99999999999 x 0 0", "g x 99999999999 0 0", "g 4294967296 7 0 00", "g 4294967296 7 0 0",
@@ -143,7 +143,7 @@ def changed_scripts():
 
 
 def padded(lines, size):
-    """The first of the lines that fit, and a last line that makes up the size."""
+    """As many of the lines as fit, and a last line that fills the size."""
     found = ""
     for line in lines:
         if len(found) + len(line) > size - 20:
@@ -153,7 +153,7 @@ def padded(lines, size):
 
 
 def size_scripts():
-    """Inputs of as many bytes as there may be, one fewer and one more: many lines, and long ones."""
+    """Inputs of the greatest size, one byte less and one more, with many lines and with long ones."""
     readings = [f"g {i % 2} {2**32 - 1 - i % 40} {2**64 - 1 - i} {2**64 - 1}" for i in range(1200)]
     frame = frame_like(KINDS["s"], "sizes", 32)
     frames = [handed(i % 3, frame) if i % 4 else f"a 0 {'0' * 2 * MOST_PAIRS}" for i in range(60)]
@@ -174,7 +174,7 @@ def sorts_of(letter):
     }
 
 
-# the sorts that are not of each kind, by the kind whose letter names them
+# the sorts that not every kind has, by the kind they are listed under
 SORTS = {
     ("v", "every byte as a letter"): lambda: byte_scripts(opened("v"), LETTER_LINES),
     ("v", "every byte in a field"): lambda: byte_scripts(opened("v"), FIELD_LINES + PAGE_LINES, ["r 0"]),
@@ -186,5 +186,5 @@ SORTS = {
     ("", "more than one thing wrong"): order_scripts,
     ("", "ends of input"): end_scripts,
     ("", "the worked script, changed"): changed_scripts,
-    ("", "as many bytes as may be"): size_scripts,
+    ("", "greatest inputs"): size_scripts,
 }

@@ -20,7 +20,7 @@ class LeastValues(RunKind):
         return int.from_bytes(data, "big")
 
     def estimate(self, run):
-        """How many different items were read."""
+        """The estimated number of different items."""
         if len(run) < self.most:
             return len(run)
         upper = run[-1] // 2**32

@@ -11,7 +11,7 @@ FRONTS = [b"", *(bytes([first]) for first in range(256)),
 
 
 def last_bytes():
-    """Frames whose last value lacks its last byte."""
+    """Frames without their last byte."""
     rows = [[0], [0, 0], [127, 0], [128, 0], [255, 0], [255, 256], [2**63, 2**63 + 256], [1, 2, 0],
             run_like("last byte", 5), *([*range(63), last] for last in (0, 2**40, TOP - 255))]
     return [framed(values)[:-1] for values in rows]
@@ -25,7 +25,7 @@ def whole_frames():
 
 
 def cut_cases():
-    """Every front part of frames of each count, and fronts that say their own end."""
+    """Every front part of frames of each count, and fronts with an end that fits them."""
     wholes = [framed(run_like(f"cut {count}", count)) for count in range(65)]
     values = values_of(run_like("cut and mended", 4))
     return [*lines("cuts", [*wholes, framed(run_like("cut wrong", 6)[::-1])]),
@@ -40,7 +40,7 @@ def changed_cases():
 
 
 def neighbours():
-    """Rows of which two neighbours are equal or fall."""
+    """Rows with two neighbours that are equal or fall."""
     for count in (2, 3, 5, 8, 17, 64):
         run = run_like(f"order {count}", count)
         for i in range(1, count) if count < 64 else (1, 2, 31, 32, 62, 63):
@@ -68,7 +68,7 @@ def wrong_counts():
 
 
 def with_tails():
-    """Bytes added at the end."""
+    """Frames with bytes added at the end."""
     for count in (0, 1, 2, 8, 64):
         run = run_like(f"tail {count}", count)
         for added in (1, 2, 4, 7, 8, 16):
@@ -79,12 +79,12 @@ def with_tails():
                 yield framed(run, count_off=added // 8, end_off=added) + tail
 
 
-# rows with a nought, equal neighbours or a fall
+# rows with a zero, equal neighbours or a fall
 SHORT = [[0], [0, 0], [0, 1], [1, 0], [1, 1], [0, 5, 9], [5, 9, 0], [9, 5, 0], [TOP]]
 
 
 def plain_row_cases():
-    """A stray value far behind the count, small runs, and full rows with a last value that is right or not."""
+    """Also a stray value far beyond the count, small runs, and full rows whose last value is right or wrong."""
     run = run_like("row", 64)
     yield from row_cases(LEAST, run, SHORT, values_of)
     for count, values in ((1, [run[0]] + [0] * 62 + [1]), (3, [0, 1, 2]), (3, [0, 1, 2] + [0] * 61)):

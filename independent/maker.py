@@ -1,5 +1,6 @@
 """Draws scripts line by line."""
 
+from collections.abc import Sequence
 from typing import NamedTuple
 
 from draws import Draws, item_marked
@@ -20,7 +21,7 @@ def backward(kind, frame):
 
 
 def damaged(kind, frame, draws):
-    """A frame that is cut, has bytes added, or has a part wrong; of a pair mostly one of its sides."""
+    """A frame that is cut, has bytes added, or has a wrong part; in a pair it is mostly one of the sides."""
     if isinstance(kind, Pair) and draws.below(3):
         first, second = sides(frame)
         if draws.below(2):
@@ -47,13 +48,13 @@ def damaged(kind, frame, draws):
 
 
 class Shape(NamedTuple):
-    """From what a drawn script is drawn: how many nodes, slots, items and turns it may have; the letters of its lines,
-    each as likely as it stands there often; and of 1,000 nodes or slots how many are wrong."""
+    """What a script is drawn from: how many nodes, slots, items and turns it may have; the letters of its lines, where
+    a repeated letter is more likely; and how many of 1,000 nodes or slots are wrong."""
 
-    nodes: range
-    slots: range
-    items: range
-    turns: range
+    nodes: Sequence
+    slots: Sequence
+    items: Sequence
+    turns: Sequence
     letters: str
     odd: int = 12
 
@@ -69,8 +70,8 @@ class Maker:
         self.nodes = self.pick(shape.nodes)
         slots = self.pick(shape.slots)
         first = self.draws.below(SLOTS - slots + 1)
-        apart, beside = self.draws.some(range(SLOTS), slots), list(range(first, first + slots))
-        self.slots = self.pick([apart, beside])
+        scattered, adjacent = self.draws.some(range(SLOTS), slots), list(range(first, first + slots))
+        self.slots = self.pick([scattered, adjacent])
         self.items = [self.item() for _ in range(self.pick(shape.items))]
         self.items.append(item_marked(self.draws.below(64), 29 + self.draws.below(3)))
         self.reader = Reader(ByState)
@@ -162,7 +163,7 @@ class Maker:
         self.draw(self.pick(self.shape.turns))
 
     def read_some(self, most):
-        """Reads of at most so many nodes, and of a pile a page."""
+        """Reads at most this many nodes, and for a pile a page."""
         nodes = self.draws.some(range(self.nodes), min(self.nodes, most))
         self.add(*(f"r {node}" for node in nodes))
         if self.letter == "p":

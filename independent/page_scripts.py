@@ -1,4 +1,4 @@
-"""Scripts of piles alone: estimates, which pages tell, and pages of tenants."""
+"""Scripts about piles only: estimates, which pages show, and pages of tenants."""
 
 from itertools import cycle
 
@@ -16,7 +16,7 @@ def pile(maps, values, readings):
 
 
 def long_side_scripts():
-    """Piles of as many bytes as a line may have, each side right but the last, which is too long for its count."""
+    """Piles of the greatest size that a line takes; only the last side is wrong: it is too long for its count."""
     for count in (0, 1, 31, 32):
         sample = sampled(readings_like(f"long side {count}", count))
         right = paired(mapped([1] * 64), paired(framed([7]), sample))
@@ -29,7 +29,7 @@ def long_side_scripts():
 # Estimates.
 
 def telling_maps():
-    """Every S div 8, so every j and w, together and spread, with bits above and without; and telling maps."""
+    """Maps for every S div 8, full ones first or spread evenly, with and without bits above; and other telling maps."""
     for q in range(257):
         yield plain(together(8 * q)) if q % 2 else littered(f"S {q}", spread(8 * q))
     for q in range(3, 256, 5):
@@ -53,7 +53,7 @@ def map_estimate_scripts():
 
 
 def last_values():
-    """The last values of full rows, whose upper bits make the estimate."""
+    """Last values of full rows; their upper bits make the estimate."""
     yield from (63, 64, 2**31, 2**32 - 1)
     for upper in (1, 2, 3, 61, 62, 63, 64, 65, 125, 126, 127, 128, 4095, 65535, 0x01FFFFFF, 0x3FFFFFFF, 0x7FFFFFFE,
                   0x7FFFFFFF, 0x80000000, 0xFBFFFFFF, 0xFC000000, 0xFFFFFFFE, 0xFFFFFFFF):
@@ -64,7 +64,7 @@ def last_values():
 
 
 def value_estimate_scripts():
-    """Nodes that hold the values 0 to 62 are told a reading whose hash is the last."""
+    """Nodes that hold the values 0 to 62 see a reading whose hash is the last value."""
     for part in in_parts(last_values(), MOST_NODES - 1):
         lines = ["o p 16", handed(0, pile([0] * 64, [*range(63)], [])), "u 0", "s 0 0"]
         for node, last in enumerate(part, start=1):
@@ -75,7 +75,7 @@ def value_estimate_scripts():
 # Pages.
 
 def tenants_page(name, readings):
-    """Two hosts are told half of the readings each, and pass them; a page before and after."""
+    """Each of two hosts sees about half of the readings; they exchange frames, with pages before and after."""
     draws = Draws(name)
     lines = ["o p 2"]
     for reading in readings:

@@ -43,7 +43,7 @@ class Pair(Kind):
 
 
 def part(kind, data, start):
-    """The form of the kind that stands in the data from `start` on."""
+    """The form that the data hold from `start` on."""
     try:
         return kind.decode(data[start:])
     except Refused as fault:
@@ -52,7 +52,7 @@ def part(kind, data, start):
 
 PILE = Pair(BITMAPS, Pair(LEAST, SAMPLE))
 
-# the kinds that lines speak of by a letter
+# the kinds by the letters that lines use
 KINDS = {
     "b": BITMAPS,
     "v": LEAST,

@@ -7,7 +7,7 @@ from pair import KINDS
 
 
 def no_bodies():
-    """Frames with noughts behind their header."""
+    """Frames with zeros after their header."""
     return [packed(5, 2, length, bytes(length - 4)) for length in (4, 5, 6, 9, 10, 13, 14, 15, 18)]
 
 
@@ -18,14 +18,14 @@ def heads():
 
 
 def with_offsets(frame):
-    """Telling low bytes of the offset, with the high byte as it is and others."""
+    """Telling low bytes of the offset, with the right high byte and with others."""
     for high in sorted({0, 1, frame[4], 255}):
         for low in (0, 1, 6, 9, 10, 11, 14, 128, 255, frame[5], max(frame[5] - 1, 0), min(frame[5] + 1, 255)):
             yield frame[:4] + bytes([high, low]) + frame[6:]
 
 
 def wrong_sides(frame):
-    """Both sides wrong: the first side's fault is told. Either side too long or too short for its place."""
+    """Both sides wrong, where the first side's fault is reported; and sides too long or too short for their place."""
     first, second = sides(frame)
 
     def wrong(side):
@@ -42,7 +42,7 @@ def wrong_sides(frame):
 
 
 def sorts(letter, counts, greatest):
-    """The sorts of a pair's cases: damages of frames of these many readings, and frames up to the greatest."""
+    """A pair's cases by sort, with damage to frames of these numbers of readings, and frames up to the greatest."""
     kind = KINDS[letter]
 
     def made(name, counts):

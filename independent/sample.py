@@ -1,6 +1,6 @@
 """The sample: runs of records, each of an item, a tenant and an amount.
 
-In memory the item's hash stands in front of a record, so that Python's order is the sample's.
+In memory a record starts with the item's hash, so that Python's order is the sample's.
 """
 
 from readings import hash_of

@@ -15,7 +15,7 @@ def run_of(name, count):
 
 
 def swapped(many, at):
-    """The many with two neighbours in each other's place."""
+    """The elements with two neighbours swapped."""
     return [*many[:at], many[at + 1], many[at], *many[at + 2:]]
 
 
@@ -29,7 +29,7 @@ def wrong_orders():
 
 
 def close_records():
-    """Records that differ in one part only, each way round; then in more, of which the first decides."""
+    """Records that differ in one part only, in both orders; then in several parts, where the first decides."""
     for item in (0, 9, item_with(0), item_with(TOP)):
         for one, other in ((0, 1), (1, 2), (255, 256), (2**31, 2**32 - 1), (0, 2**32 - 1)):
             yield [Reading(one, item, 5), Reading(other, item, 5)]
@@ -46,7 +46,7 @@ def close_records():
 
 
 def orders_by_hash():
-    """The order is by hash: by item, by amount, by tenant it is refused unless they happen to agree."""
+    """Records in the order of their hashes; in other orders they are refused unless these happen to agree."""
     for count in (2, 3, 4, 8, 20, MOST):
         readings = [Reading(i, i, count - i) for i in range(count)]
         yield from (sample_order(readings), readings, readings[::-1])
@@ -89,14 +89,14 @@ def last_byte_cases():
                               for last in (0, 1, 127, 128, 129, 255) for at in (35, 31)))]
 
 
-# rows with a nought, equal neighbours or a fall
+# rows with a zero record, equal neighbours or a fall
 SHORT = [[NOUGHT], [NOUGHT] * 2, [NOUGHT, Reading(0, 0, 1)], [Reading(0, 0, 1), NOUGHT], [Reading(1, 0, 0), NOUGHT],
          [NOUGHT, Reading(1, 0, 0)], [Reading(0, 1, 0), NOUGHT], [NOUGHT, Reading(0, 1, 0)],
          [Reading(0, 1, 0), Reading(0, 2, 0)], [Reading(0, 2, 0), Reading(0, 1, 0)], [Reading(0, item_with(TOP), 0)]]
 
 
 def plain_row_cases():
-    """One part of one unused place that is not zero, and full rows in other orders."""
+    """Also unused places with one part that is not zero, and full rows in other orders."""
     full = run_of("s row", MOST)
     yield from row_cases(SAMPLE, full, SHORT, records_of)
     for place in (1, 2, 16, 31):

@@ -22,7 +22,7 @@ MOST_PAIRS = 2048
 # the kinds that a script names
 KIND_LETTERS = ("b", "v", "s", "p")
 
-# the fields after each letter: a kind's letter, bytes, or a number of so many bits
+# the fields after each letter: a kind's letter, bytes, or a number with its size in bits
 KIND, BYTES = "kind", "bytes"
 FIELDS = {
     "o": (KIND, 32),
@@ -35,7 +35,7 @@ FIELDS = {
     "u": (32,),
 }
 
-# the calls that a line makes of a network that is open
+# the calls that lines make on an open network
 CALLS = {"g": Generate, "a": Arrive, "s": Send, "d": Deliver, "x": Drop, "r": Read}
 
 
@@ -58,7 +58,7 @@ def value_of(sort, text):
 
 
 def values_of(letter, rest):
-    """What the fields say that stand after a line's letter."""
+    """The values of the fields after a line's letter."""
     gap, *texts = rest[:1], *rest[1:].split(" ")
     sorts = FIELDS[letter]
     if gap != " " or len(texts) != len(sorts) or not all(map(is_of_form, sorts, texts)):
@@ -67,7 +67,7 @@ def values_of(letter, rest):
 
 
 class Reader:
-    """Answers the lines of a script, on a network that tells what it holds in one way."""
+    """Answers the lines of a script on a network that works out what it holds in one way."""
 
     def __init__(self, way):
         self.way = way
@@ -86,7 +86,7 @@ class Reader:
         return room[:end].hex().upper()
 
     def found(self, text):
-        """What a line gives; its refusal is raised."""
+        """The answer to a line; a refusal is raised."""
         letter, rest = text[:1], text[1:]
         if letter not in FIELDS:
             raise No(20)
@@ -117,7 +117,7 @@ def lines_of(script):
 
 
 def answers(script):
-    """What the lines answer, after both ways were seen to agree on each and on all nodes at the end."""
+    """The answers to the lines. Both ways have to agree on each line, and at the end on all nodes and slots."""
     state, paths = Reader(ByState), Reader(ByPaths)
     found = []
     for line in lines_of(script):

@@ -1,14 +1,14 @@
-"""The lines of scripts, right and spoiled. A character stands for each byte of a script."""
+"""The lines of scripts, right and spoiled. Each character of a script is one byte."""
 
 from frames import shown
 from script import FIELDS
 
-# telling numbers of 32 and of 64 bits, and such as are too great
+# telling numbers of 32 and of 64 bits, and numbers that are too great
 ENDS_32 = [0, 1, 2**31, 2**32 - 1]
 ENDS_64 = [0, 1, 2**63, 2**64 - 1]
 GREAT = [2**32, 2**64, 10**20, 10**99, 10**100 - 1]
 
-# in place of a number: what is none, or has one zero too many
+# in place of a number: no number, or one with needless zeros
 NO_NUMBERS = ["", "-", "-1", "+1", "00", "01", "0" * 100, "0" * 100 + "1", "1.0", "1,0", "1_0", "0x1", "1e3", "A", "a",
               "\xb2", "\xbd", "\0", "0\0", "\t1", "1\t", "4294967296x", "1" * 100 + "x"]
 
@@ -25,7 +25,7 @@ def script(lines, end="\n"):
 
 
 def in_parts(many, size):
-    """The many, so many at a time."""
+    """The elements in parts of `size`."""
     many = list(many)
     return [many[at:at + size] for at in range(0, len(many), size)]
 
@@ -39,7 +39,7 @@ def handed(node, frame):
 
 
 def spoiled(draws, line):
-    """The line with something done to it, which now and then leaves it right."""
+    """The line with a change that now and then leaves it right."""
     at, sort = draws.below(len(line)), draws.below(12)
     if sort < 3:
         there = chr(draws.pick([draws.below(256), draws.below(256), *b" \r\t-+0aA\n"]))
@@ -77,7 +77,7 @@ def number_places(letter):
 
 
 def wrong_fields(line):
-    """The line with one field that is of no form."""
+    """The line with one malformed field."""
     for place, sort in enumerate(FIELDS[line[0]], start=1):
         wrong = NO_NUMBERS if isinstance(sort, int) else NO_PAIRS if sort == "bytes" else NO_KINDS
         for text in wrong:
@@ -85,7 +85,7 @@ def wrong_fields(line):
 
 
 def great_fields(line):
-    """The line with a number too great, alone, and with another field of no form beside it."""
+    """The line with a number that is too great, alone or together with a malformed field."""
     places = number_places(line[0])
     for place in places:
         for great in GREAT:
@@ -99,7 +99,7 @@ def great_fields(line):
 
 
 def wrong_shapes(line):
-    """The line with too few or too many fields, and with gaps and other bytes where they do not belong."""
+    """The line with too few or too many fields, or with gaps and other bytes where they do not belong."""
     letter, fields = line[0], line.split(" ")
     yield from (letter, letter + " ", letter + "  ", letter * 2, letter + line, letter.upper() + line[1:], line[1:],
                 line[2:], " " + line, line.replace(" ", "", 1), line.replace(" ", "  ", 1), line.replace(" ", "\t", 1),

@@ -5,7 +5,7 @@ import form_scripts
 import page_scripts
 import value_scripts
 
-# the kinds that have all sorts, in the order in which they stand
+# the kinds that have all sorts, in the order of the stored scripts
 LETTERS = drawn_scripts.LETTERS
 
 

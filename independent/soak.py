@@ -1,9 +1,9 @@
-"""Answers soak lines: many turns of a network, each told by a number, and none kept.
+"""Answers soak lines: many turns on a network, drawn from a seed and not kept.
 
     python3 independent/soak.py            writes crates/soak/stdin and stdout
     python3 independent/soak.py --check    compares both with what it would write
 
-README.md says how a number tells a turn, and what an answer holds.
+README.md says how a turn follows from the seed, and what an answer holds.
 """
 
 import sys
@@ -22,7 +22,7 @@ LETTERS = ("v", "b", "s", "p")
 NODES = 7
 MOST_TURNS = 100_000_000
 
-# seeds with how many turns each; v and p have a million once
+# seeds, and how many turns each has
 SEEDS = [(0, 0), (1, 1), (10, 10), (100, 100), (1000, 1000), (2**64 - 1, 2000), (10_000, 10_000), (2**63, 30_000)]
 GREAT = {"v": [(1234567, 1_000_000)], "b": [(1234567, 100_000)], "s": [(1234567, 100_000)],
          "p": [(1234567, 100_000), (7654321, 1_000_000)]}
@@ -54,7 +54,8 @@ def turn_of(kind, word):
 
 
 def told(kind, seed, count):
-    """How many turns were accepted, how many refused with each number, the sum of what was read, and the ends."""
+    """How many turns were accepted, how many refused with each number, the sum of all bytes read, and what each node
+    holds at the end."""
     network = ByState(kind, NODES, MEMORY)
     network.make(Turn(Open(NODES)))
     counts, total = [0] * 15, 0

@@ -1,8 +1,8 @@
-"""Stored texts, written anew or compared with what the rules give."""
+"""Writes stored texts, or compares them with what the rules give."""
 
 
 def stored(text):
-    """The bytes of a text, which is a list of lines or is bytes already."""
+    """The bytes of a text, which is a list of lines or already bytes."""
     return text if isinstance(text, bytes) else "".join(line + "\n" for line in text).encode()
 
 

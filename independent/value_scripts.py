@@ -24,7 +24,7 @@ def seen(letter, node):
 # Readings.
 
 def telling_readings(letter):
-    """Few and many zeros in the hash, and the edges of tenant and amount; of bitmaps every bucket, and every rank
+    """Hashes with few and many zeros, and the extremes of tenant and amount; for bitmaps every bucket, and every rank
     twice."""
     draws = Draws(f"{letter} script readings")
     items = [item_marked(bucket, rank) for bucket in (0, 1, 47, 63) for rank in (29, 30, 31)]
@@ -41,7 +41,7 @@ def telling_readings(letter):
 
 
 def reading_scripts(letter):
-    """Each reading at a node of its own, and then all of them at the first."""
+    """Each reading at a node of its own, then all of them at the first node."""
     for part in in_parts(telling_readings(letter), MOST_NODES):
         lines = [f"o {letter} {len(part)}", *(told(node, reading) for node, reading in enumerate(part))]
         lines += [f"r {node}" for node in range(len(part))]
@@ -50,8 +50,8 @@ def reading_scripts(letter):
         yield script([*lines, *seen(letter, 0)])
 
 
-# how many readings, the first item, the step to the next, how many readings have the same item, how many tenants and
-# how many amounts take turns
+# how many readings, the first item, the step to the next item, how many readings in a row have the same item, and how
+# many tenants and amounts alternate
 MANY = [
     *((count, 0, 1, 1, 1, 1) for count in (0, 1, 2, 3, 10, 31, 32, 33, 63, 64, 65, 66, 100, 300, 1000)),
     *((count, TOP - 20, 1, 1, 1, 1) for count in (5, 33, 66, 200)),
@@ -67,7 +67,7 @@ MANY = [
 
 
 def many_scripts(letter):
-    """Three nodes are told readings in turn, and pass them until the last has all."""
+    """Three nodes see readings in turn, and pass them on until the last one has them all."""
     for count, first, step, times, tenants, amounts in MANY:
         readings = [Reading(i % tenants, (first + i // times * step) % WORD, i * i % amounts) for i in range(count)]
         yield script([f"o {letter} 3", *(told(i % 3, reading) for i, reading in enumerate(readings)),
@@ -77,7 +77,7 @@ def many_scripts(letter):
 # Joins.
 
 def drawn_pairs(kind, counts):
-    """Of drawn readings two parts each, of which some are in both; how many there are in either part and in all."""
+    """Frames of two overlapping parts of drawn readings, given how many readings the parts and the whole have."""
     draws = Draws(f"joins in kind {kind.number}")
     for one, other, pool in counts:
         readings = readings_like(f"joins of {pool} in kind {kind.number}", pool)
@@ -96,7 +96,7 @@ def map_pairs():
 
 
 def value_pairs():
-    """Runs of values: short ones and full ones, alike, apart, and each between the places of the other."""
+    """Runs of values, short and full: equal, apart and interleaved."""
     full = run_like("join full", 64)
     yield from (([], []), ([0], [0]), ([0], []), ([TOP], [0]), ([1, 3], [2, 3]))
     for one, other in ((1, 1), (2, 1), (3, 5), (31, 33), (32, 32), (33, 32), (63, 1), (64, 1), (63, 2), (64, 64)):
@@ -110,7 +110,7 @@ def value_pairs():
 
 
 def record_pairs():
-    """Samples: full ones, alike, apart, in between, and records of equal items."""
+    """Samples: full ones that are equal, apart and interleaved, and records of equal items."""
     full, rest = (sample_order(readings_like(name, count)) for name, count in (("full sample", 32), ("samples", 96)))
     last = full[-1]
     yield from ((full, full), (full, full[1:]), (full[:-1], full), (rest[:32], rest[32:64]),
@@ -136,7 +136,7 @@ def sample_of(readings):
 
 
 def pile_pairs():
-    """Piles of every third of the pairs of values, with pairs of maps and of records."""
+    """Piles made of every third pair of values, with pairs of maps and of records."""
     thirds = list(value_pairs())[::3]
     for maps, values, records in zip(cycle(map_pairs()), thirds, cycle(record_pairs())):
         yield tuple(paired(mapped(m), paired(framed(v), sample_of(r))) for m, v, r in zip(maps, values, records))
@@ -167,8 +167,8 @@ def join_scripts(letter):
 
 
 def brink_scripts(letter):
-    """Nodes that hold the same full run are told readings just below its first, between two, just below its last,
-    equal to its last and just above: by hash, tenant and amount."""
+    """Nodes with the same full run see readings just below its first element, between two, and just below, equal to and
+    just above its last, by hash, tenant and amount."""
     readings = sample_order([reading._replace(tenant=7, amount=7) for reading in readings_like("brink", 64)])
     hashes = LEAST.join_all(readings)
     for most in (64, 32):
@@ -187,7 +187,7 @@ def brink_scripts(letter):
 # Frames that are handed in.
 
 def handed_scripts(letter, frames):
-    """All these frames come to a node that was told something, twelve in a script."""
+    """All these frames arrive at a node that holds a reading, twelve in a script."""
     for part in in_parts(frames, 12):
         yield script([f"o {letter} 1", "g 0 7 5 500", *(handed(0, frame) for frame in part), "r 0"])
 
@@ -198,13 +198,13 @@ def other_kinds(letter):
 
 
 def damaged_frames(letter):
-    """Every sort of damage at every level. A line has one pair of digits at least."""
+    """Every sort of damage at every level that leaves a byte, which a line needs."""
     kind = KINDS[letter]
     return [wrong for wrong in damages(kind, frame_like(kind, f"{letter} damaged", 3)) if wrong]
 
 
 def pair_count_scripts(letter):
-    """Lines with about as many pairs as a line may have: bytes of no kind, and frames with bytes behind them."""
+    """Lines with about the greatest number of pairs: bytes of no kind, and frames with bytes added."""
     frame = frame_like(KINDS[letter], f"{letter} script most", 70)
     named_end = frame[:2] + MOST_PAIRS.to_bytes(2, "big") + frame[4:]
     for front in (b"", frame, named_end):
@@ -222,8 +222,8 @@ def sorts_of(letter):
         "telling readings": reading_scripts(letter),
         "many readings joined": many_scripts(letter),
         "joins": join_scripts(letter),
-        "on the brink of a full run": brink_scripts(letter),
+        "at the ends of a full run": brink_scripts(letter),
         "frames of other kinds": handed_scripts(letter, other_kinds(letter)),
         "every damage": handed_scripts(letter, damaged_frames(letter)),
-        "as many pairs as may be": pair_count_scripts(letter),
+        "longest bytes of a line": pair_count_scripts(letter),
     }
