@@ -227,3 +227,15 @@ def compare(state, paths):
         assert state.form_at(node) == paths.form_at(node), node
     for slot in range(SLOTS):
         assert state.is_filled(slot) == paths.is_filled(slot), slot
+
+
+def answers(kind, values, memory, turns):
+    """The answers to the turns. Both ways have to agree on each, and at the end on all nodes and slots."""
+    state, paths = ByState(kind, values, memory), ByPaths(kind, values, memory)
+    found = []
+    for turn in turns:
+        one, other = state.answer(turn), paths.answer(turn)
+        assert one == other, (turn, one, other)
+        found.append(one)
+    compare(state, paths)
+    return found
