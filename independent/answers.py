@@ -13,37 +13,20 @@ from bitmaps import lowest_zero
 from fields import BadLine, number, octets
 from frames import shown
 from kinds import NotWritten, Refused
-from least import LEAST
 from pair import KINDS
-from readings import NOUGHT, WORD, Reading, hash_of, mark_of
+from readings import NOUGHT, STEP, WORD, hash_of, mark_of
 from runs import RunKind
 
 MOST_OUTPUTS = 64
-MOST_ITEMS = 65536
-MOST_TENANTS = 4096
 MOST_ROOM = 2100
 
 
 # The fields of a line.
 
-def up_to(most, text):
-    value = number(text)
-    if value > most:
-        raise BadLine
-    return value
-
-
 def word(text):
     if not re.fullmatch("[0-9A-F]{16}", text):
         raise BadLine
     return int(text, 16)
-
-
-def form(kind, text):
-    try:
-        return kind.decode(octets(text))
-    except Refused:
-        raise BadLine from None
 
 
 # The parts of an answer.
@@ -53,16 +36,12 @@ def written(kind, value):
     return f"{kind.length(value)} {shown(data)}"
 
 
-def figures(kind, value):
-    return ",".join(map(str, kind.figures(value)))
-
-
 def refusal(fault):
     return f"no {fault.number} {fault.place} {fault.kind} kept"
 
 
 def outcome(kind, data):
-    """What becomes of one of many byte strings."""
+    """The outcome of decoding one of many byte strings."""
     try:
         again = kind.frame(kind.decode(data))
     except Refused as fault:
@@ -74,15 +53,6 @@ def outcomes(kind, many):
     each = (outcome(kind, data) for data in many)
     runs = [(len(list(group)), text) for text, group in groupby(each)]
     return ", ".join(f"{count}*{text}" for count, text in runs)
-
-
-def into_room(kind, value, room_size):
-    room = bytes((7 * at + 165) % 256 for at in range(up_to(MOST_ROOM, room_size)))
-    try:
-        length, after = kind.encode(value, room)
-        return f"ok {length} {shown(after)}"
-    except NotWritten as fault:
-        return f"no {fault.number} {shown(room)}"
 
 
 # Lines about no kind.
@@ -100,42 +70,20 @@ def mark(text):
 
 def outputs(seed, count):
     state, values = number(seed), []
-    for _ in range(up_to(MOST_OUTPUTS, count)):
+    for _ in range(number(count, MOST_OUTPUTS + 1)):
         values.append(str(hash_of(state)))
-        state = (state + 0x9E3779B97F4A7C15) % WORD
+        state = (state + STEP) % WORD
     return " ".join(values) or "-"
 
 
 def lowest(bits):
-    return str(lowest_zero(up_to(2**32 - 1, bits)))
+    return str(lowest_zero(number(bits, 2**32)))
 
 
 # Lines about a kind.
 
 def states(kind):
     return f"{kind.number} {kind.greatest} {written(kind, kind.empty)}"
-
-
-def reading(kind, tenant, item_text, amount):
-    return written(kind, kind.single(Reading(up_to(2**32 - 1, tenant), word(item_text), word(amount))))
-
-
-def joined_readings(kind, readings):
-    value = kind.join_all(readings)
-    return f"{figures(kind, value)} {written(kind, value)}"
-
-
-def items(kind, first, step, count):
-    start, stride, many = word(first), word(step), up_to(MOST_ITEMS, count)
-    return joined_readings(kind, (Reading(0, (start + i * stride) % WORD, 0) for i in range(many)))
-
-
-def tenants(kind, count, modulus, first, step):
-    many, modulus, start, stride = up_to(MOST_TENANTS, count), up_to(2**32 - 1, modulus), word(first), word(step)
-    if modulus == 0:
-        raise BadLine
-    return joined_readings(kind, (
-        Reading(i % modulus, (start + i // 2 * stride) % WORD, i * i % 7) for i in range(many)))
 
 
 def decode(kind, text):
@@ -163,27 +111,15 @@ def changes(kind, text, mask):
         data[:at] + bytes([data[at] ^ bits[0]]) + data[at + 1:] for at in range(len(data))))
 
 
-def join(kind, one, other):
-    return written(kind, kind.join(form(kind, one), form(kind, other)))
-
-
-def estimate(kind, text):
-    return figures(kind, form(kind, text))
-
-
 def encode(kind, text, room_size):
-    return into_room(kind, form(kind, text), room_size)
-
-
-def room(kind, room_size):
-    return into_room(kind, kind.single(NOUGHT), room_size)
-
-
-def full(kind, last):
-    if kind is not LEAST:
-        raise BadLine
-    places = kind.body_of([*range(63), word(last)])
-    return figures(kind, kind.stands_for(64, places))
+    room = bytes((7 * at + 165) % 256 for at in range(number(room_size, MOST_ROOM + 1)))
+    try:
+        length, after = kind.encode(kind.decode(octets(text)), room)
+    except Refused:
+        raise BadLine from None
+    except NotWritten as fault:
+        return f"no {fault.number} {shown(room)}"
+    return f"ok {length} {shown(after)}"
 
 
 def row(kind, count, places):
@@ -192,25 +128,18 @@ def row(kind, count, places):
         raise BadLine
     run = kind.stands_for(number(count), data)
     one, other = kind.join(run, kind.single(NOUGHT)), kind.join(kind.single(NOUGHT), run)
-    return f"{written(kind, run)} {figures(kind, run)} {written(kind, one)} {written(kind, other)}"
+    return f"{written(kind, run)} {kind.figure(run)} {written(kind, one)} {written(kind, other)}"
 
 
 OF_NO_KIND = {"item": (item, 1), "mark": (mark, 1), "outputs": (outputs, 2), "lowest": (lowest, 1)}
 
 OF_A_KIND = {
     "kind": (states, 0),
-    "reading": (reading, 3),
-    "items": (items, 3),
-    "tenants": (tenants, 4),
     "decode": (decode, 1),
     "all": (all_next, 1),
     "cuts": (cuts, 1),
     "changes": (changes, 2),
-    "join": (join, 2),
-    "estimate": (estimate, 1),
     "encode": (encode, 2),
-    "room": (room, 1),
-    "full": (full, 1),
     "row": (row, 2),
 }
 

@@ -5,7 +5,7 @@ from readings import hash_of, mark_of
 
 
 def lowest_zero(bits):
-    """The position of a map's lowest zero bit, and 32 where it has none."""
+    """The position of a map's lowest zero bit, or 32 if it has none."""
     return next((position for position in range(32) if not bits >> position & 1), 32)
 
 
@@ -46,19 +46,16 @@ class Bitmaps(Kind):
         return [int.from_bytes(frame[at:at + 4], "big") for at in range(4, 260, 4)]
 
     def total(self, maps):
-        """S: the lowest zero bits' positions, added up."""
+        """S: the sum of the positions of the lowest zero bits."""
         return sum(lowest_zero(bits) for bits in maps)
 
     def estimate(self, maps):
-        """How many different items were read."""
+        """The estimated number of different items."""
         if not any(maps):
             return 0
         q = self.total(maps) // 8
         w, j = divmod(q, 8)
         return root(j + 48) * 2**w * 100000 // 77351
-
-    def figures(self, maps):
-        return [self.total(maps), self.estimate(maps)]
 
 
 BITMAPS = Bitmaps()

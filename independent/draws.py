@@ -1,14 +1,17 @@
-"""Numbers, runs and readings that look drawn by lot, and are the same on every machine."""
+"""Numbers, maps, runs and readings that look random and are the same on every machine."""
 
 import hashlib
 
-from readings import WORD, Reading
+from readings import STEP, WORD, Reading, hash_of
 
 TOP = WORD - 1
 
+# a map with all bits
+FULL = 2**32 - 1
+
 
 class Draws:
-    """What is drawn under a name: from SHA-256 of the name and a count."""
+    """Draws numbers from SHA-256 of a name and a count."""
 
     def __init__(self, name):
         self.name = name
@@ -43,7 +46,7 @@ def run_like(name, count, bits=64):
 
 
 def readings_like(name, count):
-    """Readings of different items, tenants and amounts, of which small and great ones are as likely."""
+    """Readings of different items; small tenants and amounts are as likely as great ones."""
     draws = Draws(name)
 
     def sized(bits):
@@ -52,8 +55,13 @@ def readings_like(name, count):
     return [Reading(sized(32), draws.word(), sized(64)) for _ in range(count)]
 
 
+def sample_order(readings):
+    """Readings in the order of a sample's records."""
+    return sorted(readings, key=lambda r: (hash_of(r.item), r.item, r.tenant, r.amount))
+
+
 def item_with(hash_value):
-    """The item that has this hash: SplitMix64's output step taken back."""
+    """The item that has this hash: the inverse of SplitMix64's output step."""
 
     def unshifted(value, bits):
         found = value
@@ -64,12 +72,33 @@ def item_with(hash_value):
     z = unshifted(hash_value, 31)
     z = unshifted(z * pow(0x94D049BB133111EB, -1, WORD) % WORD, 27)
     z = unshifted(z * pow(0xBF58476D1CE4E5B9, -1, WORD) % WORD, 30)
-    return (z - 0x9E3779B97F4A7C15) % WORD
+    return (z - STEP) % WORD
 
 
 def item_marked(bucket, rank, odd=1):
-    """An item with this mark; `odd` tells those apart that have the same."""
+    """An item with this mark; different values of `odd` give different items."""
     return item_with((bucket + 64 * (odd << rank)) % WORD)
+
+
+def together(total):
+    """How many low bits to set in each map, so that these numbers sum to `total`: full maps first."""
+    return [min(32, max(0, total - 32 * at)) for at in range(64)]
+
+
+def spread(total):
+    """The same, spread evenly."""
+    return [total // 64 + (at < total % 64) for at in range(64)]
+
+
+def plain(lengths):
+    """Maps with these numbers of low bits set, and no others."""
+    return [2**length - 1 for length in lengths]
+
+
+def littered(name, lengths):
+    """The same maps, with drawn bits above their lowest zero bit."""
+    draws = Draws(name)
+    return [2**length - 1 | draws.below(2**32) & FULL << (length + 1) for length in lengths]
 
 
 def telling_words():
@@ -79,7 +108,7 @@ def telling_words():
 
 
 def rare_hashes():
-    """Hashes of high rank: 29 zeros and more, with each kind of bucket beside them."""
+    """Hashes of high rank, 28 zeros and more, with telling buckets."""
     found = []
     for zeros in range(28, 58):
         for bucket in (0, 1, 47, 63):

@@ -1,4 +1,4 @@
-"""Writes what the scripts in `examples` print, or compares it with what stands beside them.
+"""Writes what the scripts in `examples` print, or compares it with the stored outputs.
 
     python3 independent/examples.py            writes examples/NAME.out for each examples/NAME.script
     python3 independent/examples.py --check    compares each with what it would write

@@ -1,4 +1,4 @@
-"""Writes what the demonstration `exchange` should print, or compares it with the stored text.
+"""Writes what the program `exchange` should print, or compares it with the stored text.
 
     python3 independent/exchange.py            writes crates/exchange/stdout
     python3 independent/exchange.py --check    compares it with what it would write

@@ -4,21 +4,21 @@ import re
 
 
 class BadLine(Exception):
-    """A line that is of no form."""
+    """A malformed line."""
 
 
 def is_number(text):
-    """Whether a text is a decimal number with no needless leading zero."""
+    """Whether a text is a decimal number without needless leading zeros."""
     return re.fullmatch("0|[1-9][0-9]*", text) is not None
 
 
 def is_below(limit, text):
-    """Whether a number is below a limit of at most 2^64, which no number of more than 20 digits is."""
+    """Whether a number is below a limit of at most 2^64; a number of more than 20 digits is not."""
     return len(text) <= 20 and int(text) < limit
 
 
 def is_pairs(text):
-    """Whether a text is capital pairs, at least one."""
+    """Whether a text is one or more pairs of capital hexadecimal digits."""
     return re.fullmatch("(?:[0-9A-F]{2})+", text) is not None
 
 

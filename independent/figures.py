@@ -8,17 +8,17 @@ import sys
 sys.dont_write_bytecode = True
 
 from answers import answer
-from bitmaps import root
+from bitmaps import BITMAPS, root
 from draws import item_with
 from kinds import NotWritten
-from least import LeastValues
+from least import LEAST, LeastValues
 from page import page, usage
 from pair import KINDS, PILE
-from readings import WORD, Reading
+from readings import STEP, WORD, Reading
 from script import printed
 
-ONE_BIT = "01400104" + "00" * 3 + "01" + "00" * 252
-HALF_WAY = "02400204" + "".join(f"7FFFFFFF{low:08X}" for low in range(64))
+# the values of a full frame; with these upper bits the last one makes the estimate 126
+HALF_WAY = "".join(f"7FFFFFFF{low:08X}" for low in range(64))
 
 # case lines and what they give
 LINES = {
@@ -28,11 +28,6 @@ LINES = {
     "lowest 7": "3",
     "lowest 4294967295": "32",
     "v kind": "2 516 4 02000004",
-    "v reading 7 0000000000000000 00000000000001F4": "12 0201000CE220A8397B1DCDAF",
-    "v full 7FFFFFFF00000000": "126",
-    f"v estimate {HALF_WAY}": "126",
-    f"b estimate {ONE_BIT}": "1,82",
-    f"b estimate {'01400104' + 'FF' * 256}": f"2048,{2**38 * 100000 // 77351}",
     "b kind": f"1 260 260 01400104{'00' * 256}",
     "s kind": "3 644 4 03000004",
     "t kind": "5 1038 14 0502000E000A0200000402000004",
@@ -47,7 +42,7 @@ class TwoLeast(LeastValues):
 
 
 # the item whose hash is the third output for the seed 1234567, which ends in binary 01110111: its mark is 55, 0
-THIRD = (1234567 + 2 * 0x9E3779B97F4A7C15) % WORD
+THIRD = (1234567 + 2 * STEP) % WORD
 
 # readings, and the page of their pile
 EMPTY_PAGE = "0000" "0003" "0020" "0020" + "00" * 24
@@ -67,7 +62,7 @@ PAGES = [
      "00000000" "0001" "0000000000000005" "00000008" "0001" "0000000000000005"),
 ]
 
-# the script of the rules, and what it prints
+# the worked script, and what it prints
 WORKED = b"""o v 2
 g 0 7 0 500
 s 0 3
@@ -87,7 +82,7 @@ WORKED_PRINTS = """1 ok
 
 
 def into_room(size):
-    """What becomes of a room of this many bytes when the empty pile's page is written into it."""
+    """The outcome of writing the empty pile's page into a room of this size."""
     try:
         end, room = usage(PILE.empty, b"x" * size)
     except NotWritten as fault:
@@ -95,14 +90,23 @@ def into_room(size):
     return end, room.hex().upper()
 
 
-# other figures: a name, what the rules here give, what is known
+def told_of(maps):
+    return BITMAPS.total(maps), BITMAPS.estimate(maps)
+
+
+# other figures: a name, what this code gives, what is known
 OTHERS = [
+    ("the frame of a reading", LEAST.frame(LEAST.single(Reading(7, 0, 500))).hex().upper(), "0201000CE220A8397B1DCDAF"),
+    ("the estimate of a full row", LEAST.estimate([*range(63), 0x7FFFFFFF00000000]), 126),
+    ("the estimate of a full frame", LEAST.estimate(LEAST.decode(bytes.fromhex("02400204" + HALF_WAY))), 126),
+    ("S and the estimate of one bit", told_of([1] + [0] * 63), (1, 82)),
+    ("S and the estimate of all bits", told_of([2**32 - 1] * 64), (2048, 2**38 * 100000 // 77351)),
     ("t for j = 0, 3, 7", [root(j + 48) for j in (0, 3, 7)], [64, 82, 117]),
     ("the 2-union of 1, 3 and 2, 3", TwoLeast().join([1, 3], [2, 3]), [1, 2]),
     ("the standard pile's greatest length", KINDS["p"].greatest, 1432),
     ("four samples in three pairs", KINDS["o"].sum, 2594),
-    ("the script of the rules", printed(WORKED), WORKED_PRINTS.splitlines()),
-    ("the script with no last byte 10", printed(WORKED[:-1]), WORKED_PRINTS.splitlines()),
+    ("the worked script", printed(WORKED), WORKED_PRINTS.splitlines()),
+    ("the worked script with no last byte 10", printed(WORKED[:-1]), WORKED_PRINTS.splitlines()),
     ("a script with no bytes", printed(b""), []),
     ("a page into too little room", into_room(479), 26),
     ("a page into a room", into_room(480), (32, EMPTY_PAGE + "78" * 448)),

@@ -21,7 +21,7 @@ def values_of(values):
 
 
 def framed(values, kind=2, count_off=0, end_off=0):
-    """Least values; the count, the end and the kind may be wrong, and the values in any order."""
+    """Least values in any order; the count, the end and the kind may be wrong."""
     body = values_of(values)
     return packed(kind, len(values) + count_off, 4 + len(body) + end_off, body)
 
@@ -45,7 +45,7 @@ def mapped(maps, kind=1, count=64, end_off=0):
 
 
 def paired(first, second, kind=5, count=2, end_off=0, offset=None):
-    """Two sides, whatever they are."""
+    """A pair of two sides, right or wrong."""
     offset = 6 + len(first) if offset is None else offset
     body = offset.to_bytes(2, "big") + first + second
     return packed(kind, count, 4 + len(body) + end_off, body)
@@ -60,7 +60,7 @@ def sides(frame):
 # Damages.
 
 def head_damages(kind, frame):
-    """Damages of the first four bytes and of the length."""
+    """Damage to the first four bytes and to the length."""
     for length in range(4):
         yield frame[:length]
     for number in (0, 1, 2, 3, 4, 5, 6, 255):
@@ -80,7 +80,7 @@ def head_damages(kind, frame):
 
 
 def order_damages(kind, frame, places):
-    """Neighbours that are equal or fall, at these places of a run."""
+    """Equal or falling neighbours at these places of a run."""
     body, width = frame[4:], kind.width
     parts = [body[at:at + width] for at in range(0, len(body), width)]
     for i in places:
@@ -90,7 +90,7 @@ def order_damages(kind, frame, places):
 
 
 def offset_damages(frame):
-    """Offsets around those that are allowed, and none."""
+    """Offsets that are just outside what is allowed, or missing."""
     end = len(frame)
     right = int.from_bytes(frame[4:6], "big")
     for offset in (0, 4, 6, 9, 10, right - 1, right + 1, right + 4, end - 5, end - 4, end - 3, end, end + 1, 65535):
@@ -102,7 +102,7 @@ def offset_damages(frame):
 
 
 def damages(kind, frame):
-    """Damages of a frame, and where it is a pair's those of its sides, each with all else right."""
+    """Damage to a frame, and to the sides of a pair's frame with all else right."""
     yield from head_damages(kind, frame)
     if isinstance(kind, RunKind):
         yield from order_damages(kind, frame, (1, 2, frame[1] - 1))

@@ -1,8 +1,8 @@
 """What every synopsis kind has.
 
 A kind states its number and its greatest length, where 2,049 says that it is overlong. It gives
-the empty form, the form of a reading, the join of two forms, the frame of a form, what a frame
-holds, and the figures that are told of a form.
+the empty form, the form of a reading, the join of two forms, the frame of a form, and what a
+frame holds.
 """
 
 from functools import reduce
@@ -11,7 +11,7 @@ OVERLONG = 2049
 
 
 class Refused(Exception):
-    """Bytes that are no frame: why, at which of them, and in which kind."""
+    """Bytes that are no frame: the number of the refusal, the place and the kind."""
 
     def __init__(self, number, place, kind):
         super().__init__(number, place, kind)
@@ -20,7 +20,7 @@ class Refused(Exception):
         self.kind = kind
 
     def within(self, start):
-        """The same fault of bytes that stand from `start` on in others."""
+        """The same fault where the bytes are part of others, from `start` on."""
         return Refused(self.number, self.place + start, self.kind)
 
 
@@ -33,9 +33,9 @@ class NotWritten(Exception):
 
 
 class Kind:
-    """What all kinds do alike. A kind adds `empty`, `single`, `join`, `figures`, and for its frames
-    `count_of`, `body_of`, `allows` (a count), `fits` (a count and a length) and `held` (what stands
-    in a frame whose first four bytes are right)."""
+    """What all kinds share. A kind adds `empty`, `single`, `join`, and for its frames `count_of`, `body_of`,
+    `allows` (a count), `fits` (a count and a length) and `held` (what a frame holds, given that its first four bytes
+    are right)."""
 
     def is_overlong(self):
         return self.greatest == OVERLONG

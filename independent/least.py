@@ -20,14 +20,14 @@ class LeastValues(RunKind):
         return int.from_bytes(data, "big")
 
     def estimate(self, run):
-        """How many different items were read."""
+        """The estimated number of different items."""
         if len(run) < self.most:
             return len(run)
         upper = run[-1] // 2**32
         return 63 * 2**32 // (upper + 1)
 
-    def figures(self, run):
-        return [self.estimate(run)]
+    def figure(self, run):
+        return self.estimate(run)
 
 
 LEAST = LeastValues()

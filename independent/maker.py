@@ -1,12 +1,16 @@
-"""Draws lists of turns."""
+"""Draws scripts line by line."""
+
+from collections.abc import Sequence
+from typing import NamedTuple
 
 from draws import Draws, item_marked
 from frames import offset_damages, packed, paired, sides
-from network import ALL, MEMORY, SLOTS, Arrive, ByState, Deliver, Drop, Generate, Open, Read, Send, Turn
+from network import SLOTS, ByState
 from pair import KINDS, Pair
 from readings import Reading
 from runs import RunKind
-from turnlines import ROOM, written
+from script import Reader
+from scriptlines import ENDS_32, ENDS_64, handed, script, told
 
 
 def backward(kind, frame):
@@ -17,7 +21,7 @@ def backward(kind, frame):
 
 
 def damaged(kind, frame, draws):
-    """A frame that is cut, has bytes added, or has a part wrong; of a pair mostly one of its sides."""
+    """A frame that is cut, has bytes added, or has a wrong part; in a pair it is mostly one of the sides."""
     if isinstance(kind, Pair) and draws.below(3):
         first, second = sides(frame)
         if draws.below(2):
@@ -43,33 +47,35 @@ def damaged(kind, frame, draws):
     return bytes(data)
 
 
-def draws_of(letter, name):
-    """What is drawn for a kind's list of this name."""
-    return Draws(name if letter == "v" else f"{letter} {name}")
+class Shape(NamedTuple):
+    """What a script is drawn from: how many nodes, slots, items and turns it may have; the letters of its lines, where
+    a repeated letter is more likely; and how many of 1,000 nodes or slots are wrong."""
+
+    nodes: Sequence
+    slots: Sequence
+    items: Sequence
+    turns: Sequence
+    letters: str
+    odd: int = 12
 
 
 class Maker:
-    """Draws a list turn by turn, with an eye on what the network holds."""
+    """Draws a script line by line, with an eye on what the network holds."""
 
-    def __init__(self, letter, name, nodes, slots, items, weights, odd=12, opened=True):
+    def __init__(self, letter, name, shape):
         self.letter = letter
         self.kind = KINDS[letter]
-        self.draws = draws_of(letter, name)
-        self.nodes = nodes
+        self.draws = Draws(f"{letter} script, {name}")
+        self.shape = shape
+        self.nodes = self.pick(shape.nodes)
+        slots = self.pick(shape.slots)
         first = self.draws.below(SLOTS - slots + 1)
-        apart, beside = self.draws.some(range(SLOTS), slots), range(first, first + slots)
-        self.slots = self.pick([apart, list(beside)])
-        self.items = [self.item() for _ in range(items)]
-        if letter != "v":
-            self.items.append(item_marked(self.draws.below(64), 29 + self.draws.below(3)))
-        self.weights = weights
-        self.odd = odd
-        self.values = nodes + self.draws.below(3)
-        self.memory = MEMORY + self.pick([0, 0, 0, 1, 64])
-        self.network = ByState(self.kind, self.values, self.memory)
-        self.turns = []
-        if opened:
-            self.network.answer(Turn(Open(nodes)))
+        scattered, adjacent = self.draws.some(range(SLOTS), slots), list(range(first, first + slots))
+        self.slots = self.pick([scattered, adjacent])
+        self.items = [self.item() for _ in range(self.pick(shape.items))]
+        self.items.append(item_marked(self.draws.below(64), 29 + self.draws.below(3)))
+        self.reader = Reader(ByState)
+        self.lines = []
 
     def pick(self, choices):
         return self.draws.pick(choices)
@@ -79,82 +85,89 @@ class Maker:
                          if self.draws.below(6) == 0 else [self.draws.below(30)])
 
     def is_odd(self):
-        return self.draws.below(1000) < self.odd
+        return self.draws.below(1000) < self.shape.odd
 
     def node(self):
         if self.is_odd():
-            return self.pick([self.nodes, self.nodes, self.nodes + 1, 15, 16, 31, 2**32, ALL])
+            return self.pick([self.nodes, self.nodes, self.nodes + 1, 15, 16, 31, 2**32 - 1, 2**32])
         return self.draws.below(self.nodes)
 
-    def slot(self, filled=None):
+    def filled(self):
+        return self.reader.network.slots if self.reader.network else {}
+
+    def slot(self, is_filled):
         if self.is_odd():
-            return self.pick([32, 32, 33, 63, 64, 2**32, 2**59, ALL])
-        fit = [s for s in self.slots if filled is None or self.network.is_filled(s) == filled]
+            return self.pick([32, 32, 33, 63, 64, 2**31, 2**32 - 1, 2**32])
+        fit = [slot for slot in self.slots if (slot in self.filled()) == is_filled]
         return self.pick(fit if fit and self.draws.below(10) else self.slots)
+
+    def reading(self):
+        """A reading, now and then with telling numbers."""
+        reading = Reading(self.draws.below(3), self.pick(self.items), self.draws.below(3))
+        if self.draws.below(3):
+            return reading
+        return Reading(self.pick([reading.tenant, *ENDS_32]), self.pick([reading.item] * 3 + ENDS_64),
+                       self.pick([reading.amount, *ENDS_64]))
 
     def frame(self):
         """A frame, now and then cut, damaged or of another kind."""
         items = [self.pick(self.items) for _ in range(self.draws.below(4))]
         readings = [Reading(i, item, i % 2) for i, item in enumerate(items)]
-        if self.draws.below(1000) >= 4 * self.odd:
-            return self.kind.frame(self.kind.join_all(readings))
-        if self.letter != "v" and self.draws.below(6) == 0:
-            other = KINDS[self.pick("vbst")]
+        frame = self.kind.frame(self.kind.join_all(readings))
+        if self.draws.below(1000) >= 4 * self.shape.odd:
+            return frame
+        if self.draws.below(6) == 0:
+            other = KINDS[self.pick("vbstp")]
             return other.frame(other.join_all(readings))
-        return damaged(self.kind, self.kind.frame(self.kind.join_all(readings)), self.draws)
+        return damaged(self.kind, frame, self.draws)
 
-    def room(self, node):
-        if self.draws.below(1000) >= 8 * self.odd or node >= self.network.count():
-            return ROOM
-        length = len(self.kind.frame(self.network.form_at(node)))
-        return self.pick([0, 3, length - 8, length - 1, length, length, length + 1, ALL])
-
-    def call(self):
-        letter = self.pick(self.weights)
-        if letter in "dx" and not self.network.slots and self.draws.below(4):
+    def letter_of_line(self):
+        letter = self.pick(self.shape.letters)
+        if letter in "dx" and not self.filled() and self.draws.below(4):
             letter = "s"
+        if letter == "r" and self.draws.below(2 if self.letter == "p" else 20) == 0:
+            letter = "u"
+        return letter if self.draws.below(100) else "o"
+
+    def line(self):
+        letter = self.letter_of_line()
         if letter == "o":
-            return Open(self.pick([0, 17, ALL] if self.draws.below(4) == 0
-                                  else [self.nodes, self.nodes, self.nodes + 1, 16]))
+            counts = [0, 17, 2**32 - 1, 2**32] if self.draws.below(4) == 0 else [self.nodes, self.nodes + 1, 16]
+            return f"o {self.letter} {self.pick(counts)}"
         if letter == "g":
-            return Generate(self.node(), self.draws.below(3), self.pick(self.items),
-                            self.draws.below(3))
+            return told(self.node(), self.reading())
         if letter == "a":
-            return Arrive(self.node(), self.frame())
+            # a line has one pair of digits at least
+            return handed(self.node(), self.frame() or bytes(1))
         if letter == "s":
-            return Send(self.node(), self.slot(False))
+            return f"s {self.node()} {self.slot(False)}"
         if letter == "d":
-            return Deliver(self.slot(True), self.node())
+            return f"d {self.slot(True)} {self.node()}"
         if letter == "x":
-            return Drop(self.slot(True))
-        node = self.node()
-        return Read(node, self.room(node))
+            return f"x {self.slot(True)}"
+        return f"{letter} {self.node()}"
 
-    def brought(self):
-        if not self.is_odd():
-            return ALL, ALL
-        few = max(self.nodes - 1, 0)
-        return self.pick([(few, 99_999), (99, MEMORY - 1), (self.nodes, MEMORY), (99, 99_999),
-                          (few, MEMORY - 1), (0, 0), (ALL, 0), (0, ALL), (self.nodes, 2048)])
+    def add(self, *lines):
+        for line in lines:
+            self.lines.append(line)
+            self.reader.answer(line.encode("latin-1"))
 
-    def add(self, call, values=ALL, memory=ALL):
-        turn = Turn(call, values, memory)
-        self.turns.append(turn)
-        self.network.answer(turn)
+    def open(self):
+        self.add(f"o {self.letter} {self.nodes}")
 
     def draw(self, count):
         for _ in range(count):
-            self.add(self.call(), *self.brought())
+            self.add(self.line())
+
+    def draw_turns(self):
+        self.draw(self.pick(self.shape.turns))
 
     def read_some(self, most):
-        for node in self.draws.some(range(self.nodes), min(self.nodes, most)):
-            self.add(Read(node, ROOM))
+        """Reads at most this many nodes, and for a pile a page."""
+        nodes = self.draws.some(range(self.nodes), min(self.nodes, most))
+        self.add(*(f"r {node}" for node in nodes))
+        if self.letter == "p":
+            self.add(f"u {nodes[-1]}")
 
-    def turns_written(self):
-        return [written(turn) for turn in self.turns]
-
-    def run_line(self):
-        return ";".join([f"{self.letter} run {self.nodes} {self.values} {self.memory}", *self.turns_written()])
-
-    def each_line(self):
-        return ";".join([f"{self.letter} each {self.values} {self.memory}", *self.turns_written()])
+    def script(self):
+        return script(self.lines, self.pick(["\n", "\n", "\n", ""]))

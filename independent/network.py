@@ -16,6 +16,9 @@ SLOTS = 32
 MEMORY = 32 * 2048
 ALL = 2**64 - 1
 
+# room that every frame fits
+ROOM = 2048
+
 
 class Open(NamedTuple):
     nodes: int
@@ -53,7 +56,7 @@ class Read(NamedTuple):
 
 
 class Turn(NamedTuple):
-    """A call, and how many values and bytes it is brought: of what there is, at most all."""
+    """A call, and how many values and bytes it is lent, at most all there are."""
 
     call: tuple
     values: int = ALL
@@ -61,14 +64,14 @@ class Turn(NamedTuple):
 
 
 class No(Exception):
-    """A refusal: its number, and of bytes that are no frame the place and the kind."""
+    """A refusal: its number, and for bytes that are no frame the place and the kind."""
 
     def __str__(self):
         return "no " + "/".join(str(part) for part in self.args)
 
 
 class Rules:
-    """What is refused and what is answered, whichever way the rest is known."""
+    """What is refused and what is answered; a subclass works out what nodes and slots hold."""
 
     def __init__(self, kind, values, memory):
         self.kind = kind
@@ -76,7 +79,7 @@ class Rules:
         self.memory = memory
 
     def told_by(self, call):
-        """The form that a call brings from outside."""
+        """The form that a call brings in."""
         if isinstance(call, Generate):
             return self.kind.single(Reading(call.tenant, call.item, call.amount))
         try:
@@ -166,7 +169,7 @@ class ByState(Rules):
 
 
 class ByPaths(Rules):
-    """The calls so far with whether they were accepted, and nothing else."""
+    """Only the calls so far, and whether each was accepted."""
 
     def __init__(self, kind, values, memory):
         super().__init__(kind, values, memory)
@@ -199,7 +202,7 @@ class ByPaths(Rules):
                     yield sent, send.node, delivered, deliver.node
 
     def form_at(self, node):
-        """The join of what has a path to the node: hops one after another, at rising turns."""
+        """The join of everything with a path to the node: hops one after another, at rising turns."""
         hops = list(self.hops())
         # what a node was told before this turn has a path
         until = {node: len(self.history)}
@@ -218,7 +221,7 @@ class ByPaths(Rules):
 
 
 def compare(state, paths):
-    """Stops where the two ways do not agree on all nodes and slots."""
+    """Stops if the two ways differ on any node or slot."""
     assert state.count() == paths.count()
     for node in range(state.count()):
         assert state.form_at(node) == paths.form_at(node), node
@@ -227,7 +230,7 @@ def compare(state, paths):
 
 
 def answers(kind, values, memory, turns):
-    """What the turns answer, after both ways were seen to agree on each and on all nodes."""
+    """The answers to the turns. Both ways have to agree on each, and at the end on all nodes and slots."""
     state, paths = ByState(kind, values, memory), ByPaths(kind, values, memory)
     found = []
     for turn in turns:

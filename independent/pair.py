@@ -41,12 +41,9 @@ class Pair(Kind):
             raise Refused(14, 4, self.number)
         return part(self.first, frame[:offset], 6), part(self.second, frame, offset)
 
-    def figures(self, form):
-        return self.first.figures(form[0]) + self.second.figures(form[1])
-
 
 def part(kind, data, start):
-    """The form of the kind that stands in the data from `start` on."""
+    """The form that the data hold from `start` on."""
     try:
         return kind.decode(data[start:])
     except Refused as fault:
@@ -55,7 +52,7 @@ def part(kind, data, start):
 
 PILE = Pair(BITMAPS, Pair(LEAST, SAMPLE))
 
-# the kinds that lines speak of by a letter
+# the kinds by the letters that lines use
 KINDS = {
     "b": BITMAPS,
     "v": LEAST,

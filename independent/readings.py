@@ -4,6 +4,9 @@ from typing import NamedTuple
 
 WORD = 2**64
 
+# what SplitMix64 adds to its state from output to output
+STEP = 0x9E3779B97F4A7C15
+
 
 class Reading(NamedTuple):
     tenant: int
@@ -11,13 +14,13 @@ class Reading(NamedTuple):
     amount: int
 
 
-# the reading that cases join with where any would do
+# the reading that rows are joined with
 NOUGHT = Reading(0, 0, 0)
 
 
 def hash_of(item):
     """SplitMix64's output step."""
-    z = (item + 0x9E3779B97F4A7C15) % WORD
+    z = (item + STEP) % WORD
     z = ((z ^ z // 2**30) * 0xBF58476D1CE4E5B9) % WORD
     z = ((z ^ z // 2**27) * 0x94D049BB133111EB) % WORD
     return z ^ z // 2**31

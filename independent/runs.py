@@ -7,12 +7,13 @@ from kinds import Kind, Refused
 
 
 class RunKind(Kind):
-    """A kind of runs adds `most`, `width`, `written` (an element's bytes) and `read` (their element)."""
+    """A kind of runs adds `most`, `width`, `written` (an element's bytes), `read` (their element) and `figure` (the
+    run's estimate, or its number of records)."""
 
     empty = []
 
     def join(self, one, other):
-        """The run of the least elements in either, or of all where there are few."""
+        """The run of the `most` least elements of either, or of all if there are fewer."""
         return sorted({*one, *other})[:self.most]
 
     def count_of(self, run):
@@ -38,8 +39,8 @@ class RunKind(Kind):
         return run
 
     def stands_for(self, count, places):
-        """What a plain row stands for, given the bytes of its first places, with zeros in the others: its run, or the
-        empty run where it holds none."""
+        """The run that a plain row stands for, or the empty run if the row is not valid. The row has these bytes in
+        its first places and zeros in the others."""
         if count > self.most:
             return []
         places = places.ljust(self.width * self.most, bytes(1))

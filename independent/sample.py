@@ -1,6 +1,6 @@
 """The sample: runs of records, each of an item, a tenant and an amount.
 
-In memory the item's hash stands in front of a record, so that Python's order is the sample's.
+In memory a record starts with the item's hash, so that Python's order is the sample's.
 """
 
 from readings import hash_of
@@ -24,8 +24,8 @@ class Sample(RunKind):
         item, tenant, amount = (int.from_bytes(part, "big") for part in (data[:8], data[8:12], data[12:]))
         return hash_of(item), item, tenant, amount
 
-    def figures(self, run):
-        return [len(run)]
+    def figure(self, run):
+        return len(run)
 
 
 SAMPLE = Sample()

@@ -10,11 +10,11 @@ import sys
 sys.dont_write_bytecode = True
 
 from fields import is_below, is_number, is_pairs
-from network import MEMORY, MOST_NODES, ByPaths, ByState, No, Open, Turn, compare
+from network import (MEMORY, MOST_NODES, ROOM, Arrive, ByPaths, ByState, Deliver, Drop, Generate, No, Open, Read, Send,
+                     Turn, compare)
 from page import ROOM as PAGE_ROOM
 from page import usage
 from pair import KINDS, PILE
-from turnlines import LETTERS, ROOM
 
 MOST_INPUT = 65_536
 MOST_PAIRS = 2048
@@ -22,7 +22,7 @@ MOST_PAIRS = 2048
 # the kinds that a script names
 KIND_LETTERS = ("b", "v", "s", "p")
 
-# the fields after each letter: a kind's letter, bytes, or a number of so many bits
+# the fields after each letter: a kind's letter, bytes, or a number with its size in bits
 KIND, BYTES = "kind", "bytes"
 FIELDS = {
     "o": (KIND, 32),
@@ -34,6 +34,9 @@ FIELDS = {
     "r": (32,),
     "u": (32,),
 }
+
+# the calls that lines make on an open network
+CALLS = {"g": Generate, "a": Arrive, "s": Send, "d": Deliver, "x": Drop, "r": Read}
 
 
 def is_of_form(sort, text):
@@ -55,7 +58,7 @@ def value_of(sort, text):
 
 
 def values_of(letter, rest):
-    """What the fields say that stand after a line's letter."""
+    """The values of the fields after a line's letter."""
     gap, *texts = rest[:1], *rest[1:].split(" ")
     sorts = FIELDS[letter]
     if gap != " " or len(texts) != len(sorts) or not all(map(is_of_form, sorts, texts)):
@@ -64,7 +67,7 @@ def values_of(letter, rest):
 
 
 class Reader:
-    """Answers the lines of a script, on a network that tells what it holds in one way."""
+    """Answers the lines of a script on a network that works out what it holds in one way."""
 
     def __init__(self, way):
         self.way = way
@@ -83,7 +86,7 @@ class Reader:
         return room[:end].hex().upper()
 
     def found(self, text):
-        """What a line gives; its refusal is raised."""
+        """The answer to a line; a refusal is raised."""
         letter, rest = text[:1], text[1:]
         if letter not in FIELDS:
             raise No(20)
@@ -97,7 +100,7 @@ class Reader:
                 raise No(24)
             return self.page(*values)
         room = [ROOM] if letter == "r" else []
-        return self.network.make(Turn(LETTERS[letter](*values, *room)))
+        return self.network.make(Turn(CALLS[letter](*values, *room)))
 
     def answer(self, line):
         try:
@@ -114,7 +117,7 @@ def lines_of(script):
 
 
 def answers(script):
-    """What the lines answer, after both ways were seen to agree on each and on all nodes at the end."""
+    """The answers to the lines. Both ways have to agree on each line, and at the end on all nodes and slots."""
     state, paths = Reader(ByState), Reader(ByPaths)
     found = []
     for line in lines_of(script):

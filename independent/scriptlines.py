@@ -1,13 +1,14 @@
-"""The lines of scripts, right and spoiled. A character stands for each byte of a script."""
+"""The lines of scripts, right and spoiled. Each character of a script is one byte."""
 
+from frames import shown
 from script import FIELDS
 
-# telling numbers of 32 and of 64 bits, and such as are too great
+# telling numbers of 32 and of 64 bits, and numbers that are too great
 ENDS_32 = [0, 1, 2**31, 2**32 - 1]
 ENDS_64 = [0, 1, 2**63, 2**64 - 1]
 GREAT = [2**32, 2**64, 10**20, 10**99, 10**100 - 1]
 
-# in place of a number: what is none, or has one zero too many
+# in place of a number: no number, or one with needless zeros
 NO_NUMBERS = ["", "-", "-1", "+1", "00", "01", "0" * 100, "0" * 100 + "1", "1.0", "1,0", "1_0", "0x1", "1e3", "A", "a",
               "\xb2", "\xbd", "\0", "0\0", "\t1", "1\t", "4294967296x", "1" * 100 + "x"]
 
@@ -19,42 +20,26 @@ NO_PAIRS = ["", "-", "0", "2", "020", "0200000", "020000040", "0200000a", "0x020
 NO_KINDS = ["", "t", "n", "o", "r", "x", "B", "V", "S", "P", "bv", "vv", "bvs", "bvsp", "v ", "2", "-", "\0", "v\0"]
 
 
-def named(letter):
-    """How a kind's letter stands in the names of what is drawn for it."""
-    return f"{letter} script"
+def script(lines, end="\n"):
+    return "\n".join(lines) + end
 
 
-def turns_as_lines(turns):
-    """A list of turns as the lines of a script, which is brought all values and bytes, and reads into all room."""
-    head, *texts = turns.split(";")
-    letter, name, nodes, *_ = head.split(" ")
-    if name == "run":
-        yield f"o {letter} {nodes}"
-    for text in texts:
-        fields = text.partition(" ")[2].split(" ") if text.startswith("@") else text.split(" ")
-        if fields[0] == "o":
-            fields.insert(1, letter)
-        yield " ".join(fields[:2] if fields[0] == "r" else fields)
+def in_parts(many, size):
+    """The elements in parts of `size`."""
+    many = list(many)
+    return [many[at:at + size] for at in range(0, len(many), size)]
 
 
-def seasoned(draws, letter, lines):
-    """The lines with readings at both ends and with pages, and now and then with an OPEN or a page out of place."""
-    for line in lines:
-        name, *fields = line.split(" ")
-        if name == "g" and draws.below(3) == 0:
-            tenant, item, amount = fields[1:]
-            fields[1:] = [str(draws.pick([tenant, *ENDS_32])), str(draws.pick([item, item, item, *ENDS_64])),
-                          str(draws.pick([amount, *ENDS_64]))]
-        yield " ".join([name, *fields])
-        node = fields[1] if name == "d" else fields[0]
-        if draws.below(60 if letter != "p" else 2 if name == "r" else 8) == 0:
-            yield f"u {node}"
-        if draws.below(100) == 0:
-            yield f"o {letter} 2"
+def told(node, reading):
+    return f"g {node} {reading.tenant} {reading.item} {reading.amount}"
+
+
+def handed(node, frame):
+    return f"a {node} {shown(frame)}"
 
 
 def spoiled(draws, line):
-    """The line with something done to it, which now and then leaves it right."""
+    """The line with a change that now and then leaves it right."""
     at, sort = draws.below(len(line)), draws.below(12)
     if sort < 3:
         there = chr(draws.pick([draws.below(256), draws.below(256), *b" \r\t-+0aA\n"]))
@@ -92,7 +77,7 @@ def number_places(letter):
 
 
 def wrong_fields(line):
-    """The line with one field that is of no form."""
+    """The line with one malformed field."""
     for place, sort in enumerate(FIELDS[line[0]], start=1):
         wrong = NO_NUMBERS if isinstance(sort, int) else NO_PAIRS if sort == "bytes" else NO_KINDS
         for text in wrong:
@@ -100,7 +85,7 @@ def wrong_fields(line):
 
 
 def great_fields(line):
-    """The line with a number too great, alone, and with another field of no form beside it."""
+    """The line with a number that is too great, alone or together with a malformed field."""
     places = number_places(line[0])
     for place in places:
         for great in GREAT:
@@ -114,7 +99,7 @@ def great_fields(line):
 
 
 def wrong_shapes(line):
-    """The line with too few or too many fields, and with gaps and other bytes where they do not belong."""
+    """The line with too few or too many fields, or with gaps and other bytes where they do not belong."""
     letter, fields = line[0], line.split(" ")
     yield from (letter, letter + " ", letter + "  ", letter * 2, letter + line, letter.upper() + line[1:], line[1:],
                 line[2:], " " + line, line.replace(" ", "", 1), line.replace(" ", "  ", 1), line.replace(" ", "\t", 1),

@@ -23,12 +23,12 @@ EXAMPLES = TOP / "examples"
 # the refusals that a script can show
 POSSIBLE = [1, 4, 5, 6, 7, *range(9, 15), *range(20, 26)]
 
-# the line behind what a script prints
+# the line after what a script prints
 END = "--"
 
 
 def examples():
-    """The scripts of the examples, in the order of their names, each of which prints what stands beside it."""
+    """The example scripts, sorted by name; each prints what is stored beside it."""
     scripts = [path.read_bytes() for path in sorted(EXAMPLES.glob("*.script"))]
     outputs = [path.read_bytes() for path in sorted(EXAMPLES.glob("*.out"))]
     assert [stored(printed(script)) for script in scripts] == outputs, "an example prints something else"
@@ -36,7 +36,7 @@ def examples():
 
 
 def put_together(scripts):
-    """Scripts one after another, each behind a line with its count of bytes."""
+    """Scripts one after another, each after a line with its count of bytes."""
     return b"".join(b"%d\n%s" % (len(script), script) for script in scripts)
 
 

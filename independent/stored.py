@@ -1,14 +1,18 @@
-"""Stored texts, written anew or compared with what the rules give."""
+"""Writes stored texts, or compares them with what the rules give."""
 
 
 def stored(text):
-    """The bytes of a text, which is a list of lines or is bytes already."""
+    """The bytes of a text, which is a list of lines or already bytes."""
     return text if isinstance(text, bytes) else "".join(line + "\n" for line in text).encode()
 
 
-def write_or_compare(folder, made, arguments, usage):
+def write_or_compare(folder, made, arguments, usage, tell=None):
     """Writes each text of `made` (lines or bytes for each file name) into the folder; with `--check` it compares
-    instead. The answer is the program's exit code: 0, 1 where a stored text differs, 2 for other arguments."""
+    instead, and with `--list` it calls `tell` where there is one. The answer is the program's exit code: 0, 1 where a
+    stored text differs, 2 for other arguments."""
+    if tell and arguments == ["--list"]:
+        tell()
+        return 0
     if arguments not in ([], ["--check"]):
         print(usage)
         return 2
