@@ -7,9 +7,9 @@ ghost use Rattle.figures.specs.Figures.{Figures};
 ghost use Rattle.figures.specs.Scripts.{WorkedScript};
 
 use bitmaps::zeros::lowest_zero;
-use usage::pile::greatest_lengths;
 use readings::{mark, mix};
 use runs::union::union;
+use usage::pile::greatest_lengths;
 
 /// Some of the table's numbers, as the calls give them.
 #[derive(Clone, Copy)]

@@ -5,10 +5,10 @@ ghost use Rattle.usage.specs.Pages.{page_by};
 use crate::paged::Paged;
 use bitmaps::maps::Bitmaps;
 use least::row::LeastValues;
-use usage::pile::StandardPile;
 use sample::row::Sample;
 use synopsis::kind::LONGEST;
 use usage::page::usage;
+use usage::pile::StandardPile;
 
 impl Paged for Bitmaps {
     ghost page = { None };

@@ -21,7 +21,6 @@ use diffusion::answer::Answer;
 use least::row::LeastValues;
 use network::calls::MEMORY;
 use network::table::{NODES, Network};
-use usage::pile::StandardPile;
 use sample::row::Sample;
 use script::ask::{KindLetter, Request, Stage, read_line};
 use script::fault::LineFault;
@@ -29,6 +28,7 @@ use script::line::first_line;
 use std::array;
 use std::io::{self, ErrorKind, Write};
 use synopsis::kind::{LONGEST, Synopsis};
+use usage::pile::StandardPile;
 
 /// How many bytes an input has at most.
 pub const LONGEST_INPUT: usize = 65_536;

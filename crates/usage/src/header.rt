@@ -2,9 +2,9 @@ ghost use Rattle.std.specs.Prelude.{◌≡◌, ◌≤◌, length};
 ghost use Rattle.usage.specs.Pages.{header_cells, header_bytes, header_width, header_for, pile_form};
 
 use crate::cell::{Cell, put_cells};
+use crate::pile::StandardPile;
 use crate::row::{COLUMNS, WIDTH};
 use least::row::LeastRun;
-use crate::pile::StandardPile;
 
 /// How many bytes a header has; the first row follows.
 pub const HEADER: usize = 32;

@@ -6,9 +6,9 @@ ghost use Rattle.usage.specs.Meaning.{PagesTell, NamedByEncoding};
 
 use crate::fault::PageFault;
 use crate::header::{HEADER, Header};
+use crate::pile::StandardPile;
 use crate::row::{Row, WIDTH};
 use arrayvec::ArrayVec;
-use crate::pile::StandardPile;
 use sample::record::SampleRecord;
 use sample::row::SampleRun;
 
