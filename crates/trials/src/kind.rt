@@ -1,0 +1,202 @@
+// The cases of one kind.
+use crate::field::{Fault, bytes, size};
+use crate::text::{Hex, counted, frame, written};
+use bitmaps::maps::Bitmaps;
+use layers::pair::Pair;
+use least::row::LeastValues;
+use readings::Reading;
+use runs::row::Row;
+use sample::record::SampleRecord;
+use sample::row::Sample;
+use std::alloc::{AllocError, Global};
+use synopsis::kind::Synopsis;
+
+const MOST_ROOM: usize = 2100;
+
+// A kind with a value that differs from two items, and whose rows are no runs.
+pub(crate) trait Odd: Synopsis + Eq {
+    fn odd() -> Self;
+}
+
+impl Odd for Bitmaps {
+    fn odd() -> Bitmaps {
+        Bitmaps {
+            maps: [0xFFFF_FFFF; 64],
+        }
+    }
+}
+
+impl Odd for LeastValues {
+    fn odd() -> LeastValues {
+        let places = [7; 64];
+        LeastValues {
+            row: Row { count: 65, places },
+        }
+    }
+}
+
+impl Odd for Sample {
+    fn odd() -> Sample {
+        let seven = SampleRecord {
+            item: 7,
+            tenant: 7,
+            amount: 7,
+        };
+        let places = [seven; 32];
+        Sample {
+            row: Row { count: 33, places },
+        }
+    }
+}
+
+impl<A: Odd, B: Odd> Odd for Pair<A, B> {
+    fn odd() -> Pair<A, B> {
+        Pair {
+            first: A::odd(),
+            second: B::odd(),
+        }
+    }
+}
+
+// The value of a reading of this item.
+pub(crate) fn single<S: Synopsis>(item: u64) -> S {
+    S::make(Reading {
+        tenant: 0,
+        item,
+        amount: 0,
+    })
+}
+
+// The value of the items 1 and 2.
+fn two_items<S: Synopsis>() -> S {
+    let mut value: S = single(1);
+    value.fuse(&single(2));
+    value
+}
+
+// What becomes of bytes at a place, which `before` equals: with the frame that is then written, or in brief whether it is the
+// very bytes.
+fn at_place<S: Odd>(
+    heap: Global,
+    mut place: S,
+    before: &S,
+    bytes: &[u8],
+    brief: bool,
+) -> Result<String, AllocError> {
+    match place.decode(bytes) {
+        Ok(()) if brief => {
+            let same = frame(heap, &place)?.as_slice() == bytes;
+            let again = if same { "same" } else { "other" };
+            format!(in heap; "ok {} {again}", place.length())
+        }
+        Ok(()) => format!(in heap; "ok {}", written(heap, &place)?),
+        Err(fault) => {
+            let number = fault.reason.number();
+            let after = if place == *before { "kept" } else { "changed" };
+            format!(in heap; "no {number} {} {} {after}", fault.place, fault.kind)
+        }
+    }
+}
+
+// What becomes of bytes at a place that holds two items, and at one that holds an odd value.
+fn decoded<S: Odd>(heap: Global, bytes: &[u8], brief: bool) -> Result<String, AllocError> {
+    let one = at_place::<S>(heap, two_items(), &two_items(), bytes, brief)?;
+    let other = at_place::<S>(heap, S::odd(), &S::odd(), bytes, brief)?;
+    if one != other {
+        return String::from_str(heap, "apart");
+    }
+    Ok(one)
+}
+
+// What becomes of many byte strings.
+fn all_decoded<S: Odd>(heap: Global, many: &[Vec<u8>]) -> Result<String, AllocError> {
+    let mut outcomes = Vec::new(heap);
+    for bytes in many {
+        outcomes.push(decoded::<S>(heap, bytes.as_slice(), true)?)?;
+    }
+    counted(heap, outcomes.as_slice())
+}
+
+// The bytes with one more, whichever it is.
+fn extended(heap: Global, front: &[u8]) -> Result<Vec<Vec<u8>>, AllocError> {
+    let mut many = Vec::new(heap);
+    for last in 0..=255u8 {
+        let mut bytes = Vec::from_slice(heap, front)?;
+        bytes.push(last)?;
+        many.push(bytes)?;
+    }
+    Ok(many)
+}
+
+// Each front part of the bytes.
+fn cut(heap: Global, bytes: &[u8]) -> Result<Vec<Vec<u8>>, AllocError> {
+    let mut many = Vec::new(heap);
+    for n in 0..=bytes.len() {
+        many.push(Vec::from_slice(heap, &bytes[..n])?)?;
+    }
+    Ok(many)
+}
+
+// The bytes with one of them changed by a mask, each in turn.
+fn changed(heap: Global, bytes: &[u8], mask: u8) -> Result<Vec<Vec<u8>>, AllocError> {
+    let mut many = Vec::new(heap);
+    for i in 0..bytes.len() {
+        let mut other = Vec::from_slice(heap, bytes)?;
+        if let Some(byte) = other.get_mut(i) {
+            *byte ^= mask;
+        }
+        many.push(other)?;
+    }
+    Ok(many)
+}
+
+// The value of a frame, written into a room whose bytes tell each place from the next.
+fn encoded<S: Synopsis>(heap: Global, frame: &[u8], size: usize) -> Result<String, Fault> {
+    let mut value = S::empty();
+    if size > MOST_ROOM || value.decode(frame).is_err() {
+        return Err(Fault::Form);
+    }
+    let mut room = vec![in heap; 165u8; size]?;
+    let mut next = 165u8;
+    for byte in room.as_mut_slice() {
+        *byte = next;
+        next = next.wrapping_add(7);
+    }
+    let answer = value.encode(room.as_mut_slice());
+    let room = Hex(room.as_slice());
+    Ok(match answer {
+        Ok(length) => format!(in heap; "ok {length} {room}")?,
+        Err(fault) => format!(in heap; "no {} {room}", fault.number())?,
+    })
+}
+
+// The answer to a line, from its fields after the kind's letter.
+pub(crate) fn answer<S: Odd>(heap: Global, fields: &[&str]) -> Result<String, Fault> {
+    match fields {
+        ["kind"] => {
+            let (number, greatest) = (S::kind_number(), S::greatest_length());
+            Ok(format!(in heap; "{number} {greatest} {}", written(heap, &S::empty())?)?)
+        }
+        ["decode", text] => Ok(decoded::<S>(heap, bytes(heap, text)?.as_slice(), false)?),
+        ["all", text] => {
+            let many = extended(heap, bytes(heap, text)?.as_slice())?;
+            Ok(all_decoded::<S>(heap, many.as_slice())?)
+        }
+        ["cuts", text] => {
+            let many = cut(heap, bytes(heap, text)?.as_slice())?;
+            Ok(all_decoded::<S>(heap, many.as_slice())?)
+        }
+        ["changes", text, mask] => {
+            let found = bytes(heap, text)?;
+            match bytes(heap, mask)?.as_slice() {
+                [mask] if !found.is_empty() => {
+                    let many = changed(heap, found.as_slice(), *mask)?;
+                    Ok(all_decoded::<S>(heap, many.as_slice())?)
+                }
+                _ => Err(Fault::Form),
+            }
+        }
+        ["encode", text, room] => { encoded::<S>(heap, bytes(heap, text)?.as_slice(), size(room)?) }
+        _ => Err(Fault::Form),
+    }
+}
