@@ -1,6 +1,7 @@
 // What the fields of a line say.
 use hex::{FromHex, FromHexError};
 use std::alloc::{AllocError, Global};
+use std::str::FromStr;
 use thiserror::Error;
 
 // Why a line has no answer.
@@ -18,36 +19,32 @@ fn has_small(text: &str) -> bool {
 
 // The bytes that a text shows as capital hex pairs, or none by a dash.
 pub(crate) fn bytes(heap: Global, text: &str) -> Result<Vec<u8>, Fault> {
-    if text == "-" {
-        return Ok(Vec::new(heap));
+    match text {
+        "-" => Ok(Vec::new(heap)),
+        "" => Err(Fault::Form),
+        _ if has_small(text) => Err(Fault::Form),
+        _ => hex::decode(heap, text).map_err(|fault| match fault {
+            FromHexError::OutOfMemory => Fault::Memory(AllocError),
+            _ => Fault::Form,
+        }),
     }
-    if text.is_empty() || has_small(text) {
-        return Err(Fault::Form);
-    }
-    hex::decode(heap, text).map_err(|fault| match fault {
-        FromHexError::OutOfMemory => Fault::Memory(AllocError),
-        _ => Fault::Form,
-    })
 }
 
 // The number that 16 capital hex digits write.
 pub(crate) fn word(text: &str) -> Result<u64, Fault> {
-    if has_small(text) {
-        return Err(Fault::Form);
+    match <[u8; 8]>::from_hex(text) {
+        Ok(bytes) if !has_small(text) => Ok(u64::from_be_bytes(bytes)),
+        _ => Err(Fault::Form),
     }
-    let bytes = <[u8; 8]>::from_hex(text).map_err(|_| Fault::Form)?;
-    Ok(u64::from_be_bytes(bytes))
 }
 
 // A decimal number with no needless leading zero.
-pub(crate) fn number(text: &str) -> Result<u64, Fault> {
-    if !matches!(text.as_bytes(), [b'0'] | [b'1'..=b'9', ..]) {
-        return Err(Fault::Form);
+pub(crate) fn number<N: FromStr>(text: &str) -> Result<N, Fault>
+where
+    N::Err: Drop,
+{
+    match text.as_bytes() {
+        [b'0'] | [b'1'..=b'9', ..] => text.parse().ok().ok_or(Fault::Form),
+        _ => Err(Fault::Form),
     }
-    text.parse().map_err(|_| Fault::Form)
-}
-
-// A number of places or of bytes.
-pub(crate) fn size(text: &str) -> Result<usize, Fault> {
-    usize::try_from(number(text)?).map_err(|_| Fault::Form)
 }

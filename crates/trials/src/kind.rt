@@ -1,6 +1,6 @@
 // The cases of one kind.
-use crate::field::{Fault, bytes, size};
-use crate::text::{Hex, counted, frame, written};
+use crate::field::{Fault, bytes, number};
+use crate::text::{frame, shown, written};
 use bitmaps::maps::Bitmaps;
 use layers::pair::Pair;
 use least::row::LeastValues;
@@ -13,58 +13,52 @@ use synopsis::kind::Synopsis;
 
 const MOST_ROOM: usize = 2100;
 
-// A kind with a value that differs from two items, and whose rows are no runs.
 pub(crate) trait Odd: Synopsis + Eq {
+    // A value with every place in use: no run, where the kind has rows.
     fn odd() -> Self;
 }
 
 impl Odd for Bitmaps {
     fn odd() -> Bitmaps {
-        Bitmaps {
-            maps: [0xFFFF_FFFF; 64],
-        }
+        let maps = [u32::MAX; 64];
+        Bitmaps { maps }
     }
 }
 
 impl Odd for LeastValues {
     fn odd() -> LeastValues {
         let places = [7; 64];
-        LeastValues {
-            row: Row { count: 65, places },
-        }
+        let row = Row { count: 65, places };
+        LeastValues { row }
     }
 }
 
 impl Odd for Sample {
     fn odd() -> Sample {
-        let seven = SampleRecord {
-            item: 7,
-            tenant: 7,
-            amount: 7,
-        };
-        let places = [seven; 32];
-        Sample {
-            row: Row { count: 33, places },
-        }
+        let places = [SampleRecord::from(reading(7)); 32];
+        let row = Row { count: 33, places };
+        Sample { row }
     }
 }
 
 impl<A: Odd, B: Odd> Odd for Pair<A, B> {
     fn odd() -> Pair<A, B> {
-        Pair {
-            first: A::odd(),
-            second: B::odd(),
-        }
+        let (first, second) = (A::odd(), B::odd());
+        Pair { first, second }
+    }
+}
+
+fn reading(item: u64) -> Reading {
+    Reading {
+        tenant: 0,
+        item,
+        amount: 0,
     }
 }
 
 // The value of a reading of this item.
 pub(crate) fn single<S: Synopsis>(item: u64) -> S {
-    S::make(Reading {
-        tenant: 0,
-        item,
-        amount: 0,
-    })
+    S::make(reading(item))
 }
 
 // The value of the items 1 and 2.
@@ -74,8 +68,8 @@ fn two_items<S: Synopsis>() -> S {
     value
 }
 
-// What becomes of bytes at a place, which `before` equals: with the frame that is then written, or in brief whether it is the
-// very bytes.
+// What becomes of bytes at a place, which `before` equals. Where they are a frame, it is shown as it is written again, or in
+// brief by whether that is the very bytes.
 fn at_place<S: Odd>(
     heap: Global,
     mut place: S,
@@ -108,13 +102,20 @@ fn decoded<S: Odd>(heap: Global, bytes: &[u8], brief: bool) -> Result<String, Al
     Ok(one)
 }
 
-// What becomes of many byte strings.
+// What becomes of many byte strings: equal outcomes in a row are shown as one, and how many they are.
 fn all_decoded<S: Odd>(heap: Global, many: &[Vec<u8>]) -> Result<String, AllocError> {
     let mut outcomes = Vec::new(heap);
     for bytes in many {
-        outcomes.push(decoded::<S>(heap, bytes.as_slice(), true)?)?;
+        outcomes.push(decoded::<S>(heap, bytes, true)?)?;
     }
-    counted(heap, outcomes.as_slice())
+    let mut told = String::new(heap);
+    for run in outcomes.chunk_by(|one, next| one == next) {
+        let gap = if told.is_empty() { "" } else { ", " };
+        if let [outcome, ..] = run {
+            write!(told, "{gap}{}*{outcome}", run.len())?;
+        }
+    }
+    Ok(told)
 }
 
 // The bytes with one more, whichever it is.
@@ -137,13 +138,16 @@ fn cut(heap: Global, bytes: &[u8]) -> Result<Vec<Vec<u8>>, AllocError> {
     Ok(many)
 }
 
-// The bytes with one of them changed by a mask, each in turn.
-fn changed(heap: Global, bytes: &[u8], mask: u8) -> Result<Vec<Vec<u8>>, AllocError> {
+// The bytes with one of them changed by a mask of one byte, each in turn.
+fn changed(heap: Global, bytes: &[u8], mask: &[u8]) -> Result<Vec<Vec<u8>>, Fault> {
+    let ([_, ..], [mask]) = (bytes, mask) else {
+        return Err(Fault::Form);
+    };
     let mut many = Vec::new(heap);
     for i in 0..bytes.len() {
         let mut other = Vec::from_slice(heap, bytes)?;
         if let Some(byte) = other.get_mut(i) {
-            *byte ^= mask;
+            *byte ^= *mask;
         }
         many.push(other)?;
     }
@@ -162,8 +166,8 @@ fn encoded<S: Synopsis>(heap: Global, frame: &[u8], size: usize) -> Result<Strin
         *byte = next;
         next = next.wrapping_add(7);
     }
-    let answer = value.encode(room.as_mut_slice());
-    let room = Hex(room.as_slice());
+    let answer = value.encode(&mut room);
+    let room = shown(heap, &room)?;
     Ok(match answer {
         Ok(length) => format!(in heap; "ok {length} {room}")?,
         Err(fault) => format!(in heap; "no {} {room}", fault.number())?,
@@ -172,31 +176,19 @@ fn encoded<S: Synopsis>(heap: Global, frame: &[u8], size: usize) -> Result<Strin
 
 // The answer to a line, from its fields after the kind's letter.
 pub(crate) fn answer<S: Odd>(heap: Global, fields: &[&str]) -> Result<String, Fault> {
-    match fields {
+    Ok(match fields {
         ["kind"] => {
             let (number, greatest) = (S::kind_number(), S::greatest_length());
-            Ok(format!(in heap; "{number} {greatest} {}", written(heap, &S::empty())?)?)
+            format!(in heap; "{number} {greatest} {}", written(heap, &S::empty())?)?
         }
-        ["decode", text] => Ok(decoded::<S>(heap, bytes(heap, text)?.as_slice(), false)?),
-        ["all", text] => {
-            let many = extended(heap, bytes(heap, text)?.as_slice())?;
-            Ok(all_decoded::<S>(heap, many.as_slice())?)
-        }
-        ["cuts", text] => {
-            let many = cut(heap, bytes(heap, text)?.as_slice())?;
-            Ok(all_decoded::<S>(heap, many.as_slice())?)
-        }
+        ["decode", text] => decoded::<S>(heap, &bytes(heap, text)?, false)?,
+        ["all", text] => all_decoded::<S>(heap, &extended(heap, &bytes(heap, text)?)?)?,
+        ["cuts", text] => all_decoded::<S>(heap, &cut(heap, &bytes(heap, text)?)?)?,
         ["changes", text, mask] => {
-            let found = bytes(heap, text)?;
-            match bytes(heap, mask)?.as_slice() {
-                [mask] if !found.is_empty() => {
-                    let many = changed(heap, found.as_slice(), *mask)?;
-                    Ok(all_decoded::<S>(heap, many.as_slice())?)
-                }
-                _ => Err(Fault::Form),
-            }
+            let (bytes, mask) = (bytes(heap, text)?, bytes(heap, mask)?);
+            all_decoded::<S>(heap, &changed(heap, &bytes, &mask)?)?
         }
-        ["encode", text, room] => { encoded::<S>(heap, bytes(heap, text)?.as_slice(), size(room)?) }
-        _ => Err(Fault::Form),
-    }
+        ["encode", text, room] => encoded::<S>(heap, &bytes(heap, text)?, number(room)?)?,
+        _ => return Err(Fault::Form),
+    })
 }

@@ -13,7 +13,9 @@ use layers::pair::Pair;
 use least::row::LeastValues;
 use pile::{FourSamples, StandardPile};
 use readings::{mark, mix, output};
-use sample::row::Sample;
+use row::{read_row, told};
+use sample::record::SampleRecord;
+use sample::row::{Sample, SampleRun};
 use std::alloc::Global;
 use std::io::{BufRead, BufReader};
 use texts::shown::Pairs;
@@ -25,15 +27,10 @@ fn outputs(heap: Global, seed: u64, count: u64) -> Result<String, Fault> {
     if count > MOST_OUTPUTS {
         return Err(Fault::Form);
     }
-    if count == 0 {
-        return Ok(String::from_str(heap, "-")?);
-    }
-    let mut told = String::new(heap);
+    let mut told = String::from_str(heap, if count == 0 { "-" } else { "" })?;
     for i in 0..count {
-        if i > 0 {
-            told.push(' ')?;
-        }
-        write!(told, "{}", output(seed, i))?;
+        let gap = if i > 0 { " " } else { "" };
+        write!(told, "{gap}{}", output(seed, i))?;
     }
     Ok(told)
 }
@@ -54,27 +51,33 @@ fn of_kind(heap: Global, letter: &str, fields: &[&str]) -> Result<String, Fault>
 
 fn answer(heap: Global, line: &str) -> Result<String, Fault> {
     let fields: Vec<&str> = line.split(' ').collect(heap)?;
-    match fields.as_slice() {
+    Ok(match fields.as_slice() {
         ["item", item] => {
             let hash = mix(word(item)?);
             let (bucket, rank) = mark(hash);
             let hash = hash.to_be_bytes();
-            Ok(format!(in heap; "{} {bucket} {rank}", Pairs(&hash))?)
+            format!(in heap; "{} {bucket} {rank}", Pairs(&hash))?
         }
         ["mark", hash] => {
             let (bucket, rank) = mark(word(hash)?);
-            Ok(format!(in heap; "{bucket} {rank}")?)
+            format!(in heap; "{bucket} {rank}")?
         }
-        ["outputs", seed, count] => outputs(heap, number(seed)?, number(count)?),
-        ["lowest", map] => {
-            let map = u32::try_from(number(map)?).map_err(|_| Fault::Form)?;
-            Ok(lowest_zero(map).to_string(heap)?)
+        ["outputs", seed, count] => outputs(heap, number(seed)?, number(count)?)?,
+        ["lowest", map] => lowest_zero(number(map)?).to_string(heap)?,
+        ["v", "row", count, elements] => {
+            let row = LeastValues {
+                row: read_row::<u64, 8, 64>(heap, count, elements)?,
+            };
+            told(heap, row, row.estimate())?
         }
-        ["v", "row", count, places] => row::of_least(heap, count, places),
-        ["s", "row", count, places] => row::of_sample(heap, count, places),
-        [letter, rest @ ..] => of_kind(heap, letter, rest),
-        [] => Err(Fault::Form),
-    }
+        ["s", "row", count, elements] => {
+            let row = read_row::<SampleRecord, 20, 32>(heap, count, elements)?;
+            let records = SampleRun::of(&row).as_slice().len();
+            told(heap, Sample { row }, records as u64)?
+        }
+        [letter, rest @ ..] => of_kind(heap, letter, rest)?,
+        [] => return Err(Fault::Form),
+    })
 }
 
 fn main(rt: HostRuntime) -> anyhow::Result<()> {
