@@ -26,30 +26,27 @@ FRONTS = (1, MEMORY), (VALUES, MEMORY - 1), (VALUES, MEMORY)
 # the numbers that are not a node, a slot or a room
 SIZES = {"tenant": "u32", "item": "u64", "amount": "u64"}
 
+# the six calls, on a network that has no nodes
+SIX = [Generate(0, 7, 8, 9), Arrive(0, b""), Send(0, 0), Deliver(0, 0), Drop(0), Read(0, ALL)]
 
-def one_of_each(frame):
-    """The six calls, on a network that may have no nodes."""
-    return [Generate(0, 7, 8, 9), Arrive(0, frame), Send(0, 0), Deliver(0, 0), Drop(0), Read(0, ALL)]
+# a frame of 24 bytes
+FRAME = KINDS["s"].frame(KINDS["s"].single(Reading(7, 8, 9)))
 
-
-def sample_calls(kind):
-    frame = kind.frame(kind.single(Reading(7, 8, 9)))
-    return [
-        *one_of_each(frame), Open(0), Open(ALL), Open(2),
+TABLES = {
+    "SAMPLES": ("s", [
+        *SIX, Open(0), Open(ALL), Open(2),
         # each call, accepted where enough is brought
-        Generate(0, 2**32 - 1, ALL, ALL), Send(0, 31), Arrive(1, frame), Deliver(31, 1), Send(1, 3), Drop(3),
+        Generate(0, 2**32 - 1, ALL, ALL), Send(0, 31), Arrive(1, FRAME), Deliver(31, 1), Send(1, 3), Drop(3),
         # a READ of 44 bytes, and one of 24
         Read(1, 43), Read(1, 44), Read(0, ALL),
         # no such node or slot
-        Generate(ALL, 7, 8, 9), Arrive(ALL, frame), Send(ALL, ALL), Send(0, ALL), Deliver(ALL, ALL), Deliver(31, ALL),
+        Generate(ALL, 7, 8, 9), Arrive(ALL, b""), Send(ALL, ALL), Send(0, ALL), Deliver(ALL, ALL), Deliver(31, ALL),
         Drop(ALL), Read(ALL, ALL),
         # opened again, with slot 31 filled: all nodes are empty and the slot is free
         Open(3), Read(0, ALL), Read(1, ALL), Drop(31), Send(2, 31),
-    ]
-
-
-def overlong_calls(kind):
-    return [Open(0), Open(2), *one_of_each(b"")]
+    ]),
+    "OVERLONG": ("o", [Open(0), Open(2), *SIX]),
+}
 
 
 def octets(data):
@@ -82,13 +79,7 @@ def rows(kind, calls):
     found = iter(answers(kind, VALUES, MEMORY, turns))
     for call in calls:
         wants = ", ".join(shown_answer(next(found)) for _ in FRONTS)
-        yield f"Row({shown_call(call)}, [{wants}]),"
-
-
-def tables():
-    """The lines of each table, by its name."""
-    for name, letter, calls in ("SAMPLES", "s", sample_calls), ("OVERLONG", "o", overlong_calls):
-        yield name, list(rows(KINDS[letter], calls(KINDS[letter])))
+        yield f"Row({shown_call(call)}, &[{wants}]),"
 
 
 def packed(text):
@@ -101,7 +92,8 @@ def main(arguments):
         print(__doc__)
         return 2
     source, behind = TABLE.read_text() if arguments else "", 0
-    for name, lines in tables():
+    for name, (letter, calls) in TABLES.items():
+        lines = list(rows(KINDS[letter], calls))
         if not arguments:
             print(f"pub(crate) const {name}: &[Row] = &[", *lines, "];", sep="\n")
             continue
