@@ -1,4 +1,5 @@
 // Replays over readers and writers that give and take one byte at a time, and ones that fail.
+use arrayvec::ArrayVec;
 use session::stream::replay;
 use std::io::{self, ErrorKind, Read, Write};
 use std::test::Fail;
@@ -35,7 +36,7 @@ impl Read for SlowReader<'_> {
 // Takes one byte at a time, and fails where its room is full.
 #[derive(Drop)]
 struct SlowWriter {
-    taken: Vec<u8>,
+    taken: ArrayVec<u8, 100>,
     room: usize,
 }
 
@@ -47,8 +48,8 @@ impl Write for SlowWriter {
         let Some(first) = buf.first() else {
             return Ok(0);
         };
-        if self.taken.push(*first).is_err() {
-            return Err(io::Error::from(ErrorKind::OutOfMemory));
+        if self.taken.try_push(*first).is_err() {
+            return Err(io::Error::from(ErrorKind::StorageFull));
         }
         Ok(1)
     }
@@ -65,7 +66,7 @@ fn replays_byte_by_byte(rt: HostRuntime) -> Result<(), Fail> {
         fails: false,
     };
     let mut writer = SlowWriter {
-        taken: Vec::new(rt.alloc()),
+        taken: ArrayVec::new(),
         room: usize::MAX,
     };
     replay(&mut reader, &mut writer)?;
@@ -74,14 +75,14 @@ fn replays_byte_by_byte(rt: HostRuntime) -> Result<(), Fail> {
 }
 
 #[test]
-fn ends_where_the_writer_fails(rt: HostRuntime) -> Result<(), Fail> {
+fn ends_where_the_writer_fails(rt: HostRuntime) {
     for room in [0, 5, 20] {
         let mut reader = SlowReader {
             rest: SCRIPT,
             fails: false,
         };
         let mut writer = SlowWriter {
-            taken: Vec::new(rt.alloc()),
+            taken: ArrayVec::new(),
             room,
         };
         let replayed = replay(&mut reader, &mut writer);
@@ -89,21 +90,19 @@ fn ends_where_the_writer_fails(rt: HostRuntime) -> Result<(), Fail> {
         assert_eq!(rt; writer.taken.len(), room);
         assert!(rt; PRINTED.starts_with(writer.taken.as_slice()));
     }
-    Ok(())
 }
 
 #[test]
-fn writes_nothing_where_the_reader_fails(rt: HostRuntime) -> Result<(), Fail> {
+fn writes_nothing_where_the_reader_fails(rt: HostRuntime) {
     let mut reader = SlowReader {
         rest: SCRIPT,
         fails: true,
     };
     let mut writer = SlowWriter {
-        taken: Vec::new(rt.alloc()),
+        taken: ArrayVec::new(),
         room: usize::MAX,
     };
     let replayed = replay(&mut reader, &mut writer);
     assert!(rt; replayed.is_err());
     assert!(rt; writer.taken.is_empty());
-    Ok(())
 }
