@@ -2,31 +2,41 @@
 use hex::{FromHex, FromHexError};
 use std::alloc::{AllocError, Global};
 use std::str::FromStr;
-use thiserror::Error;
 
-// Why a line has no answer.
-#[derive(Debug, Drop, Error)]
+// Why a line has no answer: it is of no form, or memory is wanting.
+#[derive(Clone, Copy)]
 pub enum Fault {
-    #[error("bad line")]
     Form,
-    #[error(transparent)]
-    Memory(#[from(alloc)] AllocError),
+    Memory,
+}
+
+impl From<AllocError> for Fault {
+    fn from(_e: AllocError) -> Fault {
+        Fault::Memory
+    }
 }
 
 fn has_small(text: &str) -> bool {
-    text.bytes().any(|c| c.is_ascii_lowercase())
+    for c in text.bytes() {
+        if c.is_ascii_lowercase() {
+            return true;
+        }
+    }
+    false
 }
 
 // The bytes that a text shows as capital hex pairs, or none by a dash.
 pub(crate) fn bytes(heap: Global, text: &str) -> Result<Vec<u8>, Fault> {
-    match text {
-        "-" => Ok(Vec::new(heap)),
-        "" => Err(Fault::Form),
-        _ if has_small(text) => Err(Fault::Form),
-        _ => hex::decode(heap, text).map_err(|fault| match fault {
-            FromHexError::OutOfMemory => Fault::Memory(AllocError),
-            _ => Fault::Form,
-        }),
+    if text == "-" {
+        return Ok(Vec::new(heap));
+    }
+    if text.is_empty() || has_small(text) {
+        return Err(Fault::Form);
+    }
+    match hex::decode(heap, text) {
+        Ok(bytes) => Ok(bytes),
+        Err(FromHexError::OutOfMemory) => Err(Fault::Memory),
+        Err(_) => Err(Fault::Form),
     }
 }
 

@@ -138,16 +138,13 @@ fn cut(heap: Global, bytes: &[u8]) -> Result<Vec<Vec<u8>>, AllocError> {
     Ok(many)
 }
 
-// The bytes with one of them changed by a mask of one byte, each in turn.
-fn changed(heap: Global, bytes: &[u8], mask: &[u8]) -> Result<Vec<Vec<u8>>, Fault> {
-    let ([_, ..], [mask]) = (bytes, mask) else {
-        return Err(Fault::Form);
-    };
+// The bytes with one of them changed by a mask, each in turn.
+fn changed(heap: Global, bytes: &[u8], mask: u8) -> Result<Vec<Vec<u8>>, AllocError> {
     let mut many = Vec::new(heap);
     for i in 0..bytes.len() {
         let mut other = Vec::from_slice(heap, bytes)?;
         if let Some(byte) = other.get_mut(i) {
-            *byte ^= *mask;
+            *byte ^= mask;
         }
         many.push(other)?;
     }
@@ -186,7 +183,10 @@ pub(crate) fn answer<S: Odd>(heap: Global, fields: &[&str]) -> Result<String, Fa
         ["cuts", text] => all_decoded::<S>(heap, &cut(heap, &bytes(heap, text)?)?)?,
         ["changes", text, mask] => {
             let (bytes, mask) = (bytes(heap, text)?, bytes(heap, mask)?);
-            all_decoded::<S>(heap, &changed(heap, &bytes, &mask)?)?
+            match (bytes.as_slice(), mask.as_slice()) {
+                (bytes @ [_, ..], [mask]) => all_decoded::<S>(heap, &changed(heap, bytes, *mask)?)?,
+                _ => return Err(Fault::Form),
+            }
         }
         ["encode", text, room] => encoded::<S>(heap, &bytes(heap, text)?, number(room)?)?,
         _ => return Err(Fault::Form),

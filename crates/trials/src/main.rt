@@ -17,7 +17,7 @@ use row::{read_row, told};
 use sample::record::SampleRecord;
 use sample::row::{Sample, SampleRun};
 use std::alloc::Global;
-use std::io::{BufRead, BufReader};
+use std::io::{self, BufRead, BufReader, ErrorKind};
 use texts::shown::Pairs;
 
 const MOST_OUTPUTS: u64 = 64;
@@ -80,13 +80,12 @@ fn answer(heap: Global, line: &str) -> Result<String, Fault> {
     })
 }
 
-fn main(rt: HostRuntime) -> anyhow::Result<()> {
-    let heap = rt.alloc();
-    for line in BufReader::new(heap, rt.reader())?.lines(heap) {
-        match answer(heap, line?.as_str()) {
+fn main(rt: HostRuntime) -> io::Result<()> {
+    for line in BufReader::new(rt.alloc(), rt.reader())?.lines(rt.alloc()) {
+        match answer(rt.alloc(), line?.as_str()) {
             Ok(told) => rt.println(told)?,
             Err(Fault::Form) => rt.println("bad line")?,
-            Err(Fault::Memory(fault)) => return Err(fault.into()),
+            Err(Fault::Memory) => return Err(io::Error::from(ErrorKind::OutOfMemory)),
         }
     }
     Ok(())
