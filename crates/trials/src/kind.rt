@@ -151,6 +151,22 @@ fn changed(heap: Global, bytes: &[u8], mask: u8) -> Result<Vec<Vec<u8>>, AllocEr
     Ok(many)
 }
 
+// The byte strings that the fields of a line ask of.
+fn many(heap: Global, fields: &[&str]) -> Result<Vec<Vec<u8>>, Fault> {
+    match fields {
+        ["all", text] => Ok(extended(heap, &bytes(heap, text)?)?),
+        ["cuts", text] => Ok(cut(heap, &bytes(heap, text)?)?),
+        ["changes", text, mask] => {
+            let (bytes, mask) = (bytes(heap, text)?, bytes(heap, mask)?);
+            match mask.as_slice() {
+                [mask] if !bytes.is_empty() => Ok(changed(heap, &bytes, *mask)?),
+                _ => Err(Fault::Form),
+            }
+        }
+        _ => Err(Fault::Form),
+    }
+}
+
 // The value of a frame, written into a room whose bytes tell each place from the next.
 fn encoded<S: Synopsis>(heap: Global, frame: &[u8], size: usize) -> Result<String, Fault> {
     let mut value = S::empty();
@@ -171,24 +187,18 @@ fn encoded<S: Synopsis>(heap: Global, frame: &[u8], size: usize) -> Result<Strin
     })
 }
 
+// What a kind says of itself.
+fn itself<S: Synopsis>(heap: Global) -> Result<String, AllocError> {
+    let (number, greatest) = (S::kind_number(), S::greatest_length());
+    format!(in heap; "{number} {greatest} {}", written(heap, &S::empty())?)
+}
+
 // The answer to a line, from its fields after the kind's letter.
 pub(crate) fn answer<S: Odd>(heap: Global, fields: &[&str]) -> Result<String, Fault> {
-    Ok(match fields {
-        ["kind"] => {
-            let (number, greatest) = (S::kind_number(), S::greatest_length());
-            format!(in heap; "{number} {greatest} {}", written(heap, &S::empty())?)?
-        }
-        ["decode", text] => decoded::<S>(heap, &bytes(heap, text)?, false)?,
-        ["all", text] => all_decoded::<S>(heap, &extended(heap, &bytes(heap, text)?)?)?,
-        ["cuts", text] => all_decoded::<S>(heap, &cut(heap, &bytes(heap, text)?)?)?,
-        ["changes", text, mask] => {
-            let (bytes, mask) = (bytes(heap, text)?, bytes(heap, mask)?);
-            match (bytes.as_slice(), mask.as_slice()) {
-                (bytes @ [_, ..], [mask]) => all_decoded::<S>(heap, &changed(heap, bytes, *mask)?)?,
-                _ => return Err(Fault::Form),
-            }
-        }
-        ["encode", text, room] => encoded::<S>(heap, &bytes(heap, text)?, number(room)?)?,
-        _ => return Err(Fault::Form),
-    })
+    match fields {
+        ["kind"] => Ok(itself::<S>(heap)?),
+        ["decode", text] => Ok(decoded::<S>(heap, &bytes(heap, text)?, false)?),
+        ["encode", text, room] => encoded::<S>(heap, &bytes(heap, text)?, number(room)?),
+        _ => Ok(all_decoded::<S>(heap, &many(heap, fields)?)?),
+    }
 }

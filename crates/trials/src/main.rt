@@ -13,12 +13,9 @@ use layers::pair::Pair;
 use least::row::LeastValues;
 use pile::{FourSamples, StandardPile};
 use readings::{mark, mix, output};
-use row::{read_row, told};
-use sample::record::SampleRecord;
-use sample::row::{Sample, SampleRun};
+use sample::row::Sample;
 use std::alloc::Global;
 use std::io::{self, BufRead, BufReader, ErrorKind};
-use texts::shown::Pairs;
 
 const MOST_OUTPUTS: u64 = 64;
 
@@ -35,28 +32,13 @@ fn outputs(heap: Global, seed: u64, count: u64) -> Result<String, Fault> {
     Ok(told)
 }
 
-// The answer to a line about a kind, from its fields after the kind's letter.
-fn of_kind(heap: Global, letter: &str, fields: &[&str]) -> Result<String, Fault> {
-    match letter {
-        "b" => kind::answer::<Bitmaps>(heap, fields),
-        "v" => kind::answer::<LeastValues>(heap, fields),
-        "s" => kind::answer::<Sample>(heap, fields),
-        "p" => kind::answer::<StandardPile>(heap, fields),
-        "t" => kind::answer::<Pair<LeastValues, LeastValues>>(heap, fields),
-        "n" => kind::answer::<Pair<Pair<Bitmaps, Sample>, LeastValues>>(heap, fields),
-        "o" => kind::answer::<FourSamples>(heap, fields),
-        _ => Err(Fault::Form),
-    }
-}
-
-fn answer(heap: Global, line: &str) -> Result<String, Fault> {
-    let fields: Vec<&str> = line.split(' ').collect(heap)?;
-    Ok(match fields.as_slice() {
+// The answer to a line about no kind.
+fn of_hashes(heap: Global, fields: &[&str]) -> Result<String, Fault> {
+    Ok(match fields {
         ["item", item] => {
             let hash = mix(word(item)?);
             let (bucket, rank) = mark(hash);
-            let hash = hash.to_be_bytes();
-            format!(in heap; "{} {bucket} {rank}", Pairs(&hash))?
+            format!(in heap; "{hash:016X} {bucket} {rank}")?
         }
         ["mark", hash] => {
             let (bucket, rank) = mark(word(hash)?);
@@ -64,20 +46,24 @@ fn answer(heap: Global, line: &str) -> Result<String, Fault> {
         }
         ["outputs", seed, count] => outputs(heap, number(seed)?, number(count)?)?,
         ["lowest", map] => lowest_zero(number(map)?).to_string(heap)?,
-        ["v", "row", count, elements] => {
-            let row = LeastValues {
-                row: read_row::<u64, 8, 64>(heap, count, elements)?,
-            };
-            told(heap, row, row.estimate())?
-        }
-        ["s", "row", count, elements] => {
-            let row = read_row::<SampleRecord, 20, 32>(heap, count, elements)?;
-            let records = SampleRun::of(&row).as_slice().len();
-            told(heap, Sample { row }, records as u64)?
-        }
-        [letter, rest @ ..] => of_kind(heap, letter, rest)?,
-        [] => return Err(Fault::Form),
+        _ => return Err(Fault::Form),
     })
+}
+
+fn answer(heap: Global, line: &str) -> Result<String, Fault> {
+    let fields: Vec<&str> = line.split(' ').collect(heap)?;
+    match fields.as_slice() {
+        ["v", "row", count, elements] => row::of_least(heap, count, elements),
+        ["s", "row", count, elements] => row::of_sample(heap, count, elements),
+        ["b", rest @ ..] => kind::answer::<Bitmaps>(heap, rest),
+        ["v", rest @ ..] => kind::answer::<LeastValues>(heap, rest),
+        ["s", rest @ ..] => kind::answer::<Sample>(heap, rest),
+        ["p", rest @ ..] => kind::answer::<StandardPile>(heap, rest),
+        ["t", rest @ ..] => kind::answer::<Pair<LeastValues, LeastValues>>(heap, rest),
+        ["n", rest @ ..] => kind::answer::<Pair<Pair<Bitmaps, Sample>, LeastValues>>(heap, rest),
+        ["o", rest @ ..] => kind::answer::<FourSamples>(heap, rest),
+        fields => of_hashes(heap, fields),
+    }
 }
 
 fn main(rt: HostRuntime) -> io::Result<()> {
