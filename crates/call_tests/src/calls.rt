@@ -20,13 +20,13 @@ use synopsis::kind::{LONGEST, Synopsis};
 
 const VALUES: usize = 3;
 
-// How many values, and how many bytes of memory, the three turns of a row are brought.
+// How many values and how many bytes of memory each of a row's three turns is brought.
 const FRONTS: [(usize, usize); 3] = [(1, MEMORY), (VALUES, MEMORY - 1), (VALUES, MEMORY)];
 
-// What a byte holds that nothing was written to.
+// What the bytes of a room hold before a READ.
 const UNTOUCHED: u8 = 0xA5;
 
-// The call of a step. Its Err is no failure but the other of the two: how many nodes OPEN opens.
+// The call of a step, or how many nodes an OPEN opens.
 fn call_of(step: Step) -> Result<Call<'static>, usize> {
     Ok(match step {
         Step::Open(nodes) => return Err(nodes),
@@ -59,7 +59,7 @@ fn open<S: Synopsis>(
     }
 }
 
-// Whether a READ leaves its room as it was behind the frame, and all of it where it is refused.
+// Whether a READ writes nothing behind the frame, and nothing at all where it is refused.
 fn leaves_rest<S: Synopsis>(network: &Network, values: &[S], memory: &[u8], step: Step) -> bool {
     let Step::Read(node, wanted) = step else {
         return true;
@@ -70,7 +70,7 @@ fn leaves_rest<S: Synopsis>(network: &Network, values: &[S], memory: &[u8], step
     room.iter().skip(end).all(|byte| *byte == UNTOUCHED)
 }
 
-// Makes the turns of a row, and says whether each was answered as it should be.
+// Makes the turns of a row; whether all their answers are right.
 fn is_right<S: Synopsis>(
     network: &mut Network,
     values: &mut [S],
@@ -103,7 +103,7 @@ fn is_right<S: Synopsis>(
     expects.met && expects.wants.is_empty() && untouched
 }
 
-// Makes all turns of a table, and gives the first row that is not answered as it should be.
+// Makes all turns of a table; the first row with a wrong answer.
 fn first_wrong<S: Synopsis>(values: &mut [S], memory: &mut [u8], rows: &[Row]) -> Option<usize> {
     let mut network = Network::new();
     for (place, row) in rows.iter().enumerate() {
@@ -128,7 +128,7 @@ fn refuses_an_overlong_kind(rt: HostRuntime) {
     assert_eq!(rt; first_wrong(&mut values, &mut memory, OVERLONG), None);
 }
 
-// The example of the rules, and what becomes of turns that are refused.
+// The example of the rules, with four turns that are refused.
 fn example() -> [Turn<'static>; 8] {
     let reading = Reading {
         tenant: 7,
@@ -159,6 +159,7 @@ fn example() -> [Turn<'static>; 8] {
 // What node 1 is then read as.
 const FRAME: &[u8] = b"\x02\x01\x00\x0C\xE2\x20\xA8\x39\x7B\x1D\xCD\xAF";
 
+// Nothing here allocates, so it passes with an allocator that fails, as under `rt try --test --fail-alloc 1`.
 #[test]
 fn runs_without_memory(rt: HostRuntime) {
     let wants = [

@@ -1,4 +1,4 @@
-// What answers should be, and a listener that compares them as it hears them. It asks for no memory.
+// The answers that turns should give, and a listener that compares them as it hears them. It allocates nothing.
 use diffusion::answer::Answer;
 use diffusion::listener::Listener;
 use std::convert::Infallible;
@@ -11,7 +11,7 @@ pub(crate) enum Want {
     No(u8),
 }
 
-// The answers that are still to come, and whether each before them was as it should be.
+// The answers still to come, and whether all before them were right.
 #[derive(Clone, Copy)]
 pub(crate) struct Expects<'a> {
     pub(crate) wants: &'a [Want],

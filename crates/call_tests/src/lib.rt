@@ -1,4 +1,4 @@
-// The tests of the calls and of replays, in a crate of their own: a crate with tests is proved twice.
+// Tests of the calls and of replays. They have a crate of their own, since a crate with tests is proved twice.
 #![tactic(auto)]
 
 #[cfg(test)]

@@ -1,8 +1,8 @@
-// Calls and their answers, worked out by independent/call_table.py, which compares them with what stands here.
+// Calls and their answers, as independent/call_table.py prints them; its `--check` compares this file.
 use crate::expects::Want;
 use crate::expects::Want::{Bytes, Done, No};
 
-// A call by its arguments in their order.
+// A call and its arguments, in their order.
 #[derive(Clone, Copy)]
 pub(crate) enum Step {
     Open(usize),
@@ -16,7 +16,7 @@ pub(crate) enum Step {
 
 use Step::{Arrive, Deliver, Drop, Generate, Open, Read, Send};
 
-// A call, and what it answers where it is brought one value, one byte of memory too few, and enough of both.
+// A call, and its answers when it is brought one value, one byte of memory too few, and enough of both.
 #[derive(Clone, Copy)]
 pub(crate) struct Row(pub(crate) Step, pub(crate) &'static [Want]);
 

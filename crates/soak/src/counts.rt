@@ -1,4 +1,4 @@
-// What many turns came to.
+// How many turns were accepted and refused.
 use diffusion::answer::Answer;
 use diffusion::listener::Listener;
 use std::convert::Infallible;
@@ -26,7 +26,7 @@ impl Counts {
     }
 }
 
-// It hears all answers, and keeps none.
+// It counts every answer, and keeps none.
 impl Listener for Counts {
     type Error = Infallible;
 

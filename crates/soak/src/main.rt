@@ -1,5 +1,5 @@
-// Makes many turns on a network of seven nodes, in memory that is there from the start: each line of standard input names a
-// kind, a seed and how many turns, and is answered by a line on standard output.
+// Makes many turns, told by a seed, on a network of seven nodes, in memory that is there from the start. Each line of standard
+// input names a kind, a seed and how many turns to make; for each it prints a line.
 #![tactic(auto)]
 
 mod counts;
@@ -22,7 +22,7 @@ use told::{NODES, turn_of};
 
 const MOST_TURNS: u64 = 100_000_000;
 
-// A decimal number with no needless leading zero.
+// A decimal number without a needless leading zero.
 fn number(text: &str) -> Option<u64> {
     match text.as_bytes() {
         [b'0'] | [b'1'..=b'9', ..] => text.parse().ok(),
@@ -30,7 +30,7 @@ fn number(text: &str) -> Option<u64> {
     }
 }
 
-// Makes so many turns, and prints what they came to and what each node then reads.
+// Makes the turns, and prints their counts and what a READ of each node then gives.
 fn soak<S: Synopsis>(
     rt: &impl Print,
     values: &mut [S],
@@ -60,7 +60,7 @@ fn soak<S: Synopsis>(
     println!(rt;)
 }
 
-// Values of each kind, and memory, for the networks of all lines.
+// Values of each kind, and memory, which all lines use in turn.
 #[derive(Drop)]
 struct Lent {
     maps: [Bitmaps; NODES],

@@ -1,4 +1,4 @@
-// The turns that words tell.
+// The turns that the words of a generator tell.
 use histories::{Call, Turn};
 use network::calls::MEMORY;
 use readings::Reading;
@@ -14,7 +14,7 @@ fn reading(item: u64) -> Reading {
     }
 }
 
-// The call that a word tells; the frame of an ARRIVE, which is written into the room, may lack its last byte.
+// The call that a word tells. The frame of an ARRIVE is written into the room, and may lack its last byte.
 fn call_of<S: Synopsis>(word: u64, is_cut: bool, room: &mut [u8]) -> Call<'_> {
     let node = (word / 16 % 8) as usize;
     let slot = (25 + word / 128 % 8) as usize;
@@ -42,7 +42,7 @@ fn call_of<S: Synopsis>(word: u64, is_cut: bool, room: &mut [u8]) -> Call<'_> {
     }
 }
 
-// The turn that a word tells: few values, few bytes, or a cut frame now and then.
+// The turn that a word tells. Now and then it brings too few values, too few bytes or a cut frame.
 pub(crate) fn turn_of<S: Synopsis>(word: u64, room: &mut [u8]) -> Turn<'_> {
     let odd = word / 0x1_0000_0000_0000 % 64;
     Turn {

@@ -1,9 +1,9 @@
-// What the fields of a line say.
+// Reads the fields of a line.
 use hex::{FromHex, FromHexError};
 use std::alloc::{AllocError, Global};
 use std::str::FromStr;
 
-// Why a line has no answer: it is of no form, or memory is wanting.
+// Why a line has no answer: its form is wrong, or memory ran out.
 #[derive(Clone, Copy)]
 pub enum Fault {
     Form,
@@ -25,7 +25,7 @@ fn has_small(text: &str) -> bool {
     false
 }
 
-// The bytes that a text shows as capital hex pairs, or none by a dash.
+// Bytes as capital hex pairs, or a dash for none.
 pub(crate) fn bytes(heap: Global, text: &str) -> Result<Vec<u8>, Fault> {
     if text == "-" {
         return Ok(Vec::new(heap));
@@ -40,7 +40,7 @@ pub(crate) fn bytes(heap: Global, text: &str) -> Result<Vec<u8>, Fault> {
     }
 }
 
-// The number that 16 capital hex digits write.
+// A number as 16 capital hex digits.
 pub(crate) fn word(text: &str) -> Result<u64, Fault> {
     match <[u8; 8]>::from_hex(text) {
         Ok(bytes) if !has_small(text) => Ok(u64::from_be_bytes(bytes)),
@@ -48,7 +48,7 @@ pub(crate) fn word(text: &str) -> Result<u64, Fault> {
     }
 }
 
-// A decimal number with no needless leading zero.
+// A decimal number without a needless leading zero.
 pub(crate) fn number<N: FromStr>(text: &str) -> Result<N, Fault>
 where
     N::Err: Drop,

@@ -14,7 +14,7 @@ use synopsis::kind::Synopsis;
 const MOST_ROOM: usize = 2100;
 
 pub(crate) trait Odd: Synopsis + Eq {
-    // A value with every place in use: no run, where the kind has rows.
+    // A value with every place in use. Where the kind has rows, its row is no run.
     fn odd() -> Self;
 }
 
@@ -68,8 +68,8 @@ fn two_items<S: Synopsis>() -> S {
     value
 }
 
-// What becomes of bytes at a place, which `before` equals. Where they are a frame, it is shown as it is written again, or in
-// brief by whether that is the very bytes.
+// Decodes bytes into a place that equals `before`, and tells the outcome. An accepted value is encoded again: its frame is shown,
+// or in brief whether it is the same bytes.
 fn at_place<S: Odd>(
     heap: Global,
     mut place: S,
@@ -92,7 +92,7 @@ fn at_place<S: Odd>(
     }
 }
 
-// What becomes of bytes at a place that holds two items, and at one that holds an odd value.
+// Decodes bytes into a place that holds two items and into an odd one, which must not matter.
 fn decoded<S: Odd>(heap: Global, bytes: &[u8], brief: bool) -> Result<String, AllocError> {
     let one = at_place::<S>(heap, two_items(), &two_items(), bytes, brief)?;
     let other = at_place::<S>(heap, S::odd(), &S::odd(), bytes, brief)?;
@@ -102,7 +102,7 @@ fn decoded<S: Odd>(heap: Global, bytes: &[u8], brief: bool) -> Result<String, Al
     Ok(one)
 }
 
-// What becomes of many byte strings: equal outcomes in a row are shown as one, and how many they are.
+// Decodes each byte string; equal outcomes in a row are counted.
 fn all_decoded<S: Odd>(heap: Global, many: &[Vec<u8>]) -> Result<String, AllocError> {
     let mut outcomes = Vec::new(heap);
     for bytes in many {
@@ -151,7 +151,7 @@ fn changed(heap: Global, bytes: &[u8], mask: u8) -> Result<Vec<Vec<u8>>, AllocEr
     Ok(many)
 }
 
-// The byte strings that the fields of a line ask of.
+// The byte strings that a line asks about.
 fn many(heap: Global, fields: &[&str]) -> Result<Vec<Vec<u8>>, Fault> {
     match fields {
         ["all", text] => Ok(extended(heap, &bytes(heap, text)?)?),
@@ -167,7 +167,7 @@ fn many(heap: Global, fields: &[&str]) -> Result<Vec<Vec<u8>>, Fault> {
     }
 }
 
-// The value of a frame, written into a room whose bytes tell each place from the next.
+// Encodes the value of a frame into a room whose neighbouring bytes differ.
 fn encoded<S: Synopsis>(heap: Global, frame: &[u8], size: usize) -> Result<String, Fault> {
     let mut value = S::empty();
     if size > MOST_ROOM || value.decode(frame).is_err() {
@@ -187,13 +187,13 @@ fn encoded<S: Synopsis>(heap: Global, frame: &[u8], size: usize) -> Result<Strin
     })
 }
 
-// What a kind says of itself.
+// The number, the greatest length and the empty value of a kind.
 fn itself<S: Synopsis>(heap: Global) -> Result<String, AllocError> {
     let (number, greatest) = (S::kind_number(), S::greatest_length());
     format!(in heap; "{number} {greatest} {}", written(heap, &S::empty())?)
 }
 
-// The answer to a line, from its fields after the kind's letter.
+// Answers a line, given its fields after the kind's letter.
 pub(crate) fn answer<S: Odd>(heap: Global, fields: &[&str]) -> Result<String, Fault> {
     match fields {
         ["kind"] => Ok(itself::<S>(heap)?),

@@ -1,4 +1,4 @@
-// Answers case lines by the proved library: a line on standard output for each on standard input.
+// Answers cases about kinds: for each line of standard input it prints a line.
 #![tactic(auto)]
 
 mod field;
@@ -19,7 +19,7 @@ use std::io::{self, BufRead, BufReader, ErrorKind};
 
 const MOST_OUTPUTS: u64 = 64;
 
-// The first outputs of the generator that has this seed.
+// The first outputs of the generator with this seed.
 fn outputs(heap: Global, seed: u64, count: u64) -> Result<String, Fault> {
     if count > MOST_OUTPUTS {
         return Err(Fault::Form);
@@ -32,7 +32,7 @@ fn outputs(heap: Global, seed: u64, count: u64) -> Result<String, Fault> {
     Ok(told)
 }
 
-// The answer to a line about no kind.
+// Answers a line about hashes.
 fn of_hashes(heap: Global, fields: &[&str]) -> Result<String, Fault> {
     Ok(match fields {
         ["item", item] => {

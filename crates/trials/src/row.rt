@@ -1,4 +1,4 @@
-// Plain rows, which may be no runs, of the two kinds that have them.
+// Plain rows, which need not be runs, for the two kinds that have them.
 ghost use Rattle.std.specs.Prelude.{◌<◌, ◌^◌};
 
 use crate::field::{Fault, bytes, number};
@@ -13,7 +13,7 @@ use sample::row::{Sample, SampleRun};
 use std::alloc::{AllocError, Global};
 use synopsis::kind::Synopsis;
 
-// The row with this count and these elements, of W bytes each, and blank places behind them.
+// The row with this count and these elements of W bytes each; the places behind them are blank.
 fn read_row<R: Record + Fresh, const W: usize, const N: usize>(
     heap: Global,
     count: &str,
@@ -35,7 +35,7 @@ fn read_row<R: Record + Fresh, const W: usize, const N: usize>(
     Ok(Row { count, places })
 }
 
-// What a row stands for, its figures, and its join with a reading from either side.
+// What a row stands for, its figures, and its join with a reading, in both orders.
 fn told<S: Synopsis + Copy>(heap: Global, row: S, figures: u64) -> Result<String, AllocError> {
     let (mut before, mut behind): (S, S) = (row, single(0));
     before.fuse(&single(0));

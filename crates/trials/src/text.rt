@@ -1,4 +1,4 @@
-// How answers show bytes, values and outcomes.
+// How answers show bytes and values.
 use std::alloc::{AllocError, Global};
 use synopsis::kind::Synopsis;
 use texts::shown::Pairs;
@@ -11,7 +11,7 @@ pub(crate) fn shown(heap: Global, bytes: &[u8]) -> Result<String, AllocError> {
     Pairs(bytes).to_string(heap)
 }
 
-// The frame of a value; no bytes in an overlong kind.
+// The frame of a value; an overlong kind has none.
 pub(crate) fn frame<S: Synopsis>(heap: Global, value: &S) -> Result<Vec<u8>, AllocError> {
     let mut room = vec![in heap; 0; value.length()]?;
     if value.encode(&mut room).is_err() {
@@ -20,7 +20,7 @@ pub(crate) fn frame<S: Synopsis>(heap: Global, value: &S) -> Result<Vec<u8>, All
     Ok(room)
 }
 
-// A value as its length and its frame.
+// A value, as its length and its frame.
 pub(crate) fn written<S: Synopsis>(heap: Global, value: &S) -> Result<String, AllocError> {
     let frame = frame(heap, value)?;
     format!(in heap; "{} {}", value.length(), shown(heap, &frame)?)
