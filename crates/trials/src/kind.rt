@@ -1,0 +1,204 @@
+// The cases of one kind.
+use crate::field::{Fault, bytes, number};
+use crate::text::{frame, shown, written};
+use bitmaps::maps::Bitmaps;
+use layers::pair::Pair;
+use least::row::LeastValues;
+use readings::Reading;
+use runs::row::Row;
+use sample::record::SampleRecord;
+use sample::row::Sample;
+use std::alloc::{AllocError, Global};
+use synopsis::kind::Synopsis;
+
+const MOST_ROOM: usize = 2100;
+
+pub(crate) trait Odd: Synopsis + Eq {
+    // A value with every place in use. Where the kind has rows, its row is no run.
+    fn odd() -> Self;
+}
+
+impl Odd for Bitmaps {
+    fn odd() -> Bitmaps {
+        let maps = [u32::MAX; 64];
+        Bitmaps { maps }
+    }
+}
+
+impl Odd for LeastValues {
+    fn odd() -> LeastValues {
+        let places = [7; 64];
+        let row = Row { count: 65, places };
+        LeastValues { row }
+    }
+}
+
+impl Odd for Sample {
+    fn odd() -> Sample {
+        let places = [SampleRecord::from(reading(7)); 32];
+        let row = Row { count: 33, places };
+        Sample { row }
+    }
+}
+
+impl<A: Odd, B: Odd> Odd for Pair<A, B> {
+    fn odd() -> Pair<A, B> {
+        let (first, second) = (A::odd(), B::odd());
+        Pair { first, second }
+    }
+}
+
+fn reading(item: u64) -> Reading {
+    Reading {
+        tenant: 0,
+        item,
+        amount: 0,
+    }
+}
+
+// The value of a reading of this item.
+pub(crate) fn single<S: Synopsis>(item: u64) -> S {
+    S::make(reading(item))
+}
+
+// The value of the items 1 and 2.
+fn two_items<S: Synopsis>() -> S {
+    let mut value: S = single(1);
+    value.fuse(&single(2));
+    value
+}
+
+// Decodes bytes into a place that equals `before`, and tells the outcome. An accepted value is encoded again: its frame is shown,
+// or in brief whether it is the same bytes.
+fn at_place<S: Odd>(
+    heap: Global,
+    mut place: S,
+    before: &S,
+    bytes: &[u8],
+    brief: bool,
+) -> Result<String, AllocError> {
+    match place.decode(bytes) {
+        Ok(()) if brief => {
+            let same = frame(heap, &place)?.as_slice() == bytes;
+            let again = if same { "same" } else { "other" };
+            format!(in heap; "ok {} {again}", place.length())
+        }
+        Ok(()) => format!(in heap; "ok {}", written(heap, &place)?),
+        Err(fault) => {
+            let number = fault.reason.number();
+            let after = if place == *before { "kept" } else { "changed" };
+            format!(in heap; "no {number} {} {} {after}", fault.place, fault.kind)
+        }
+    }
+}
+
+// Decodes bytes into a place that holds two items and into an odd one, which must not matter.
+fn decoded<S: Odd>(heap: Global, bytes: &[u8], brief: bool) -> Result<String, AllocError> {
+    let one = at_place::<S>(heap, two_items(), &two_items(), bytes, brief)?;
+    let other = at_place::<S>(heap, S::odd(), &S::odd(), bytes, brief)?;
+    if one != other {
+        return String::from_str(heap, "apart");
+    }
+    Ok(one)
+}
+
+// Decodes each byte string; equal outcomes in a row are counted.
+fn all_decoded<S: Odd>(heap: Global, many: &[Vec<u8>]) -> Result<String, AllocError> {
+    let mut outcomes = Vec::new(heap);
+    for bytes in many {
+        outcomes.push(decoded::<S>(heap, bytes, true)?)?;
+    }
+    let mut told = String::new(heap);
+    for run in outcomes.chunk_by(|one, next| one == next) {
+        let gap = if told.is_empty() { "" } else { ", " };
+        if let [outcome, ..] = run {
+            write!(told, "{gap}{}*{outcome}", run.len())?;
+        }
+    }
+    Ok(told)
+}
+
+// The bytes with one more, whichever it is.
+fn extended(heap: Global, front: &[u8]) -> Result<Vec<Vec<u8>>, AllocError> {
+    let mut many = Vec::new(heap);
+    for last in 0..=255u8 {
+        let mut bytes = Vec::from_slice(heap, front)?;
+        bytes.push(last)?;
+        many.push(bytes)?;
+    }
+    Ok(many)
+}
+
+// Each front part of the bytes.
+fn cut(heap: Global, bytes: &[u8]) -> Result<Vec<Vec<u8>>, AllocError> {
+    let mut many = Vec::new(heap);
+    for n in 0..=bytes.len() {
+        many.push(Vec::from_slice(heap, &bytes[..n])?)?;
+    }
+    Ok(many)
+}
+
+// The bytes with one of them changed by a mask, each in turn.
+fn changed(heap: Global, bytes: &[u8], mask: u8) -> Result<Vec<Vec<u8>>, AllocError> {
+    let mut many = Vec::new(heap);
+    for i in 0..bytes.len() {
+        let mut other = Vec::from_slice(heap, bytes)?;
+        if let Some(byte) = other.get_mut(i) {
+            *byte ^= mask;
+        }
+        many.push(other)?;
+    }
+    Ok(many)
+}
+
+// The byte strings that a line asks about.
+fn many(heap: Global, fields: &[&str]) -> Result<Vec<Vec<u8>>, Fault> {
+    match fields {
+        ["all", text] => Ok(extended(heap, &bytes(heap, text)?)?),
+        ["cuts", text] => Ok(cut(heap, &bytes(heap, text)?)?),
+        ["changes", text, mask] => {
+            let (bytes, mask) = (bytes(heap, text)?, bytes(heap, mask)?);
+            match mask.as_slice() {
+                [mask] if !bytes.is_empty() => Ok(changed(heap, &bytes, *mask)?),
+                _ => Err(Fault::Form),
+            }
+        }
+        _ => Err(Fault::Form),
+    }
+}
+
+// Encodes the value of a frame into a room whose neighbouring bytes differ.
+fn encoded<S: Synopsis>(heap: Global, frame: &[u8], size: usize) -> Result<String, Fault> {
+    let mut value = S::empty();
+    if size > MOST_ROOM || value.decode(frame).is_err() {
+        return Err(Fault::Form);
+    }
+    let mut room = vec![in heap; 165u8; size]?;
+    let mut next = 165u8;
+    for byte in room.as_mut_slice() {
+        *byte = next;
+        next = next.wrapping_add(7);
+    }
+    let answer = value.encode(&mut room);
+    let room = shown(heap, &room)?;
+    Ok(match answer {
+        Ok(length) => format!(in heap; "ok {length} {room}")?,
+        Err(fault) => format!(in heap; "no {} {room}", fault.number())?,
+    })
+}
+
+// The number, the greatest length and the empty value of a kind.
+fn itself<S: Synopsis>(heap: Global) -> Result<String, AllocError> {
+    let (number, greatest) = (S::kind_number(), S::greatest_length());
+    format!(in heap; "{number} {greatest} {}", written(heap, &S::empty())?)
+}
+
+// Answers a line, given its fields after the kind's letter.
+pub(crate) fn answer<S: Odd>(heap: Global, fields: &[&str]) -> Result<String, Fault> {
+    match fields {
+        ["kind"] => Ok(itself::<S>(heap)?),
+        ["decode", text] => Ok(decoded::<S>(heap, &bytes(heap, text)?, false)?),
+        ["encode", text, room] => encoded::<S>(heap, &bytes(heap, text)?, number(room)?),
+        _ => Ok(all_decoded::<S>(heap, &many(heap, fields)?)?),
+    }
+}
