@@ -3,7 +3,7 @@
     python3 independent/call_table.py            prints the tables
     python3 independent/call_table.py --check    compares them with crates/call_tests/src/table.rt
 
-A row is a call and what it answers where it is brought one value, one byte of memory too few, and
+A row is a call and what it answers where it is lent one value, one byte of memory too few, and
 enough of both: three turns, one after another, on what the turns before left.
 """
 
@@ -19,7 +19,7 @@ from readings import Reading
 
 TABLE = Path(__file__).resolve().parent.parent / "crates" / "call_tests" / "src" / "table.rt"
 
-# how many values there are, and what each of the three turns is brought
+# how many values there are, and what each of the three turns is lent
 VALUES = 3
 FRONTS = (1, MEMORY), (VALUES, MEMORY - 1), (VALUES, MEMORY)
 
@@ -35,7 +35,7 @@ FRAME = KINDS["s"].frame(KINDS["s"].single(Reading(7, 8, 9)))
 TABLES = {
     "SAMPLES": ("s", [
         *SIX, Open(0), Open(ALL), Open(2),
-        # each call, accepted where enough is brought
+        # each call, accepted where enough is lent
         Generate(0, 2**32 - 1, ALL, ALL), Send(0, 31), Arrive(1, FRAME), Deliver(31, 1), Send(1, 3), Drop(3),
         # a READ of 44 bytes, and one of 24
         Read(1, 43), Read(1, 44), Read(0, ALL),

@@ -1,6 +1,6 @@
 """A network of hosts that pass synopses of one kind to each other, by its rules alone.
 
-It has 1 to 16 nodes, none until it is opened, and 32 slots. Every call is brought a front part of
+It has 1 to 16 nodes, none until it is opened, and 32 slots. Every call is lent a front part of
 the values and of the memory. The rules of what is refused stand once, in `Rules`; what a node
 holds and which slots are filled is told in two ways. `ByState` keeps forms and slots. `ByPaths`
 keeps only which calls were accepted, and joins what has a path to the node.

@@ -11,16 +11,17 @@ use histories::{Call, Turn};
 use least::row::LeastValues;
 use network::calls::MEMORY;
 use network::table::Network;
-use pile::FourSamples;
 use readings::Reading;
 use sample::row::Sample;
 use std::array;
 use std::test::Fail;
+use synopsis::fault::EncodeFault;
 use synopsis::kind::{LONGEST, Synopsis};
+use usage::pile::FourSamples;
 
 const VALUES: usize = 3;
 
-// How many values and how many bytes of memory each of a row's three turns is brought.
+// How many values and how many bytes of memory each of a row's three turns is lent.
 const FRONTS: [(usize, usize); 3] = [(1, MEMORY), (VALUES, MEMORY - 1), (VALUES, MEMORY)];
 
 // What the bytes of a room hold before a READ.
@@ -126,6 +127,8 @@ fn refuses_an_overlong_kind(rt: HostRuntime) {
     let mut values: [FourSamples; VALUES] = array::from_fn(|_| FourSamples::empty());
     let mut memory = [0; MEMORY];
     assert_eq!(rt; first_wrong(&mut values, &mut memory, OVERLONG), None);
+    assert_eq!(rt; values[0].encode(&mut memory), Err(EncodeFault::Overlong));
+    assert!(rt; memory.iter().all(|byte| *byte == 0));
 }
 
 // The example of the rules, with four turns that are refused.

@@ -16,7 +16,7 @@ pub(crate) enum Step {
 
 use Step::{Arrive, Deliver, Drop, Generate, Open, Read, Send};
 
-// A call, and its answers when it is brought one value, one byte of memory too few, and enough of both.
+// A call, and its answers when it is lent one value, one byte of memory too few, and enough of both.
 #[derive(Clone, Copy)]
 pub(crate) struct Row(pub(crate) Step, pub(crate) &'static [Want]);
 

@@ -11,7 +11,6 @@ use diffusion::turn::make_turn;
 use least::row::LeastValues;
 use network::calls::MEMORY;
 use network::table::Network;
-use pile::StandardPile;
 use readings::output;
 use sample::row::Sample;
 use std::array;
@@ -19,6 +18,7 @@ use std::io::{self, BufRead, BufReader};
 use synopsis::kind::{LONGEST, Synopsis};
 use texts::shown::Pairs;
 use told::{NODES, turn_of};
+use usage::pile::StandardPile;
 
 const MOST_TURNS: u64 = 100_000_000;
 

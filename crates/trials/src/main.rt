@@ -11,11 +11,11 @@ use bitmaps::zeros::lowest_zero;
 use field::{Fault, number, word};
 use layers::pair::Pair;
 use least::row::LeastValues;
-use pile::{FourSamples, StandardPile};
 use readings::{mark, mix, output};
 use sample::row::Sample;
 use std::alloc::Global;
 use std::io::{self, BufRead, BufReader, ErrorKind};
+use usage::pile::{FourSamples, StandardPile};
 
 const MOST_OUTPUTS: u64 = 64;
 
