@@ -23,7 +23,7 @@ TABLE = Path(__file__).resolve().parent.parent / "crates" / "call_tests" / "src"
 VALUES = 3
 FRONTS = (1, MEMORY), (VALUES, MEMORY - 1), (VALUES, MEMORY)
 
-# the numbers that are not a node, a slot or a room
+# the types of the numbers that are no node, slot or room
 SIZES = {"tenant": "u32", "item": "u64", "amount": "u64"}
 
 # the six calls, on a network that has no nodes
@@ -37,6 +37,8 @@ TABLES = {
         *SIX, Open(0), Open(ALL), Open(2),
         # each call, accepted where enough is lent
         Generate(0, 2**32 - 1, ALL, ALL), Send(0, 31), Arrive(1, FRAME), Deliver(31, 1), Send(1, 3), Drop(3),
+        # no bytes are no frame
+        Arrive(0, b""),
         # a READ of 44 bytes, and one of 24
         Read(1, 43), Read(1, 44), Read(0, ALL),
         # no such node or slot
@@ -70,7 +72,8 @@ def shown_answer(text):
     if text == "ok":
         return "Done"
     if text.startswith("no "):
-        return f"No({text[3:]})"
+        # the number alone, without the place and the kind of bytes that are no frame
+        return f"No({text[3:].split('/')[0]})"
     return f"Bytes({octets(bytes.fromhex(text))})"
 
 

@@ -22,7 +22,7 @@ def shown(frame):
 
 
 def transcript():
-    """The whole afternoon of three hosts, line by line."""
+    """What the program prints, line by line."""
     held = dict.fromkeys(["alpha", "beta", "gamma"], LEAST.empty)
     lines = []
 
@@ -49,7 +49,7 @@ def transcript():
         frame = LEAST.frame(held[sender])
         lines.append(f"   {sender} sends {shown(frame)}")
         take(receiver, frame)
-    lines.append("3. Straight from alpha: its frame of before, late, and then once more.")
+    lines.append("3. Straight from alpha: its first frame, late, and then once more.")
     lines.append(f"   it is {shown(late)}")
     take("gamma", late)
     take("gamma", late)

@@ -104,6 +104,6 @@ scaled sum = eighth_root (sum / 8 % 8) * 2 ^ (sum / 8 / 8) * 100000 / 77351
 abbrev pub none_set : List ℕ → Bool
 none_set maps = list_all (λ m. m == 0) maps
 
--- how many different readings the maps tell of
+-- an estimate of how many different hashes the maps were made of
 abbrev pub estimate_of : List ℕ → ℕ
 estimate_of maps = cond (none_set maps) 0 (scaled (sum_of maps))

@@ -131,7 +131,7 @@ fn refuses_an_overlong_kind(rt: HostRuntime) {
     assert!(rt; memory.iter().all(|byte| *byte == 0));
 }
 
-// The example of the rules, with four turns that are refused.
+// Eight turns, four of which are refused.
 fn example() -> [Turn<'static>; 8] {
     let reading = Reading {
         tenant: 7,

@@ -4,7 +4,7 @@ use session::stream::replay;
 use std::io::{self, ErrorKind, Read, Write};
 use std::test::Fail;
 
-// The script of the rules, and what it prints.
+// The script examples/worked.script, and what it prints.
 const SCRIPT: &[u8] = b"o v 2\ng 0 7 0 500\ns 0 3\ng 0 7 9 900\nd 3 1\nr 1\nd 4 1\n";
 
 const PRINTED: &[u8] = b"1 ok\n2 ok\n3 ok\n4 ok\n5 ok\n6 0201000CE220A8397B1DCDAF\n7 no 6\n";

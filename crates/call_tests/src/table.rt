@@ -47,6 +47,7 @@ pub(crate) const SAMPLES: &[Row] = &[
     Row(Deliver(31, 1), &[No(2), No(2), Done]),
     Row(Send(1, 3), &[No(2), No(2), Done]),
     Row(Drop(3), &[No(2), No(2), Done]),
+    Row(Arrive(0, &[]), &[No(2), No(2), No(9)]),
     Row(Read(1, 43), &[No(2), No(2), No(8)]),
     Row(
         Read(1, 44),

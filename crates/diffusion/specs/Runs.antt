@@ -75,11 +75,11 @@ module _ {S L : Type 0} (k : Kind) (form : S → k.Form) (hears stops : L → To
     pub heard : Heard hears old told mid
     pub stop : stops mid unheard new
 
-  -- by what the call answered after an accepted OPEN
-  abbrev pub Came : {E : Type 0} → Result (Unit {0}) (RunFault E) → Type 0
-  Came (Ok u) = Finished
-  Came (Err (Refused e)) = ⊥
-  Came (Err (Stopped e)) = StoppedAt
+  -- how a run ended, by what the call answered after an accepted OPEN
+  abbrev pub Ended : {E : Type 0} → Result (Unit {0}) (RunFault E) → Type 0
+  Ended (Ok u) = Finished
+  Ended (Err (Refused e)) = ⊥
+  Ended (Err (Stopped e)) = StoppedAt
 
 -- how OPEN was answered: nothing follows where it was refused
 abbrev pub opening : {E : Type 0} → Result (Unit {0}) (RunFault E) → Result (Unit {0}) NetworkFault

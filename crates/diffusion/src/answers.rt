@@ -19,7 +19,7 @@ pub enum OwnedAnswer {
 }
 
 impl Answer<'_> {
-    /// The same answer, with a copy of its bytes; only memory can be wanting.
+    /// The same answer, with a copy of its bytes; an error only where memory runs out.
     pub fn to_owned(self, heap: Global) -> Result<OwnedAnswer, AllocError>
         ensures { IfOk result (λ owned. owned_tells owned ≡ tells self.entry) }
     {
@@ -31,15 +31,17 @@ impl Answer<'_> {
     }
 }
 
-/// Keeps every answer that it hears; it stops where memory is wanting.
+/// Keeps every answer that it hears, and stops where memory runs out.
 #[derive(Drop)]
 pub struct Answers {
+    /// where the answers get their memory
     pub heap: Global,
+    /// the answers so far, the first one first
     pub answers: Vec<OwnedAnswer>,
 }
 
 impl Answers {
-    /// It has heard nothing yet.
+    /// A listener that has heard nothing yet.
     pub fn new(heap: Global) -> Answers
         ensures { result.answers.items ≡ [] }
     {

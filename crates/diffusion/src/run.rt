@@ -1,6 +1,6 @@
 ghost use Rattle.std.specs.Prelude.{◌≡◌, length, IfOk, IfErr, Ok};
 ghost use Rattle.network.specs.Calls.{open_answer};
-ghost use Rattle.diffusion.specs.Runs.{rack, opening, Came, Finished};
+ghost use Rattle.diffusion.specs.Runs.{rack, opening, Ended, Finished};
 ghost use Rattle.diffusion.specs.Promise.{Promise};
 
 use crate::fault::RunFault;
@@ -25,7 +25,7 @@ pub fn run_until<S: Synopsis, L: Listener>(
 ) -> Result<(), RunFault<L::Error>>
     ensures opens { opening result ≡ open_answer S.Synopsis.kind nodes (length values.old) (length memory.old) }
     ensures refused { IfErr (opening result) (λ _. (network.new ≡ network.old) × (values.new ≡ values.old) × (memory.new ≡ memory.old) × (listener.new ≡ listener.old)) }
-    ensures made { IfOk (opening result) (λ _. Came S.Synopsis.kind S.Synopsis.form L.hears L.stops nodes values.old memory.old turns.now listener.old listener.new (rack network.new values.new memory.new) result) }
+    ensures made { IfOk (opening result) (λ _. Ended S.Synopsis.kind S.Synopsis.form L.hears L.stops nodes values.old memory.old turns.now listener.old listener.new (rack network.new values.new memory.new) result) }
     ensures promise { Promise S.Synopsis.kind S.Synopsis.form }
 {
     network.open(values, memory, nodes)?;

@@ -61,7 +61,7 @@ impl Host {
         Ok(frame)
     }
 
-    // Reads a frame, and joins what it tells of to what is counted; a refused frame changes nothing.
+    // Decodes a frame, and fuses it into what the host holds; a refused frame changes nothing.
     pub(crate) fn take(&mut self, rt: &impl Print, frame: &[u8]) -> io::Result<()>
         ensures { least_form self.new.value ≡ after_frame (least_form self.old.value) frame.now }
     {

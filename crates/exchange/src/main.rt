@@ -40,13 +40,13 @@ fn first_route(rt: &impl Print, alpha: &Host, beta: &mut Host, gamma: &mut Host)
 
 // The second route: one frame, late and twice.
 fn second_route(rt: &impl Print, late: &[u8], gamma: &mut Host) -> io::Result<()> {
-    println!(rt; "3. Straight from alpha: its frame of before, late, and then once more.")?;
+    println!(rt; "3. Straight from alpha: its first frame, late, and then once more.")?;
     println!(rt; "   it is {}", Pairs(late))?;
     gamma.take(rt, late)?;
     gamma.take(rt, late)
 }
 
-// Two frames, each with whose it is, and whether they are equal byte by byte.
+// Two frames, each with its host's name, and whether they are equal byte by byte.
 fn compare(rt: &impl Print, one: (&str, &[u8]), other: (&str, &[u8])) -> io::Result<()> {
     for (name, frame) in [one, other] {
         println!(rt; "   {name}: {}", Pairs(frame))?;

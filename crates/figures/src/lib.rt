@@ -14,11 +14,17 @@ use usage::pile::greatest_lengths;
 /// Some of the table's numbers, as the calls give them.
 #[derive(Clone, Copy)]
 pub struct Computed {
+    /// the hash of item 0
     pub hash_of_0: u64,
+    /// the mark of that hash
     pub mark_of_that: (u32, u32),
+    /// the mark of hash 0
     pub mark_of_0: (u32, u32),
+    /// the 2-union of 1, 3 and 2, 3
     pub two_least: [u64; 2],
+    /// the lowest zero bits of 0, 7 and 2^32 - 1
     pub lowest_zeros: [u32; 3],
+    /// the greatest lengths of the standard pile and of four samples
     pub lengths: (usize, usize),
 }
 

@@ -20,7 +20,7 @@ unused x = x == 0
 abbrev pub least_form : LeastValues → Run by_size 64
 least_form row = form_of by_size unused row.row
 
--- how many different readings a run tells of: its length, and where it is full 63 * 2^32 over the upper half of its
+-- an estimate of how many different hashes a run was made of: its length, and where it is full 63 * 2^32 over the upper half of its
 -- last value and one
 abbrev pub estimate_of : List ℕ → ℕ
 estimate_of values = cond (nat_lt (length values) 64) (length values) (63 * 2 ^ 32 / (slice_index values 63 / 2 ^ 32 + 1))

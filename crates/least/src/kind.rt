@@ -14,7 +14,7 @@ pub const GREATEST: usize = 516;
 
 impl LeastValues {
     /// An estimate of how many different hashes were seen: their number while it is below 64, and then
-    /// 63 * 2^32 / (u + 1), where u are the upper 32 bits of the last value.
+    /// 63 * 2^32 / (u + 1), rounded down, where u are the upper 32 bits of the last value.
     pub fn estimate(&self) -> u64
         ensures { result ≡ estimate_of (least_form self.now).items }
     {

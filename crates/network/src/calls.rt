@@ -11,7 +11,7 @@ use synopsis::kind::{LONGEST, Synopsis};
 /// How many bytes a slot has, room for any frame.
 pub const SLOT: usize = LONGEST;
 
-/// How many bytes of memory a network asks for. Slot s begins at byte `SLOT * s`.
+/// How many bytes of memory a network asks for: 65,536. Slot s begins at byte `SLOT * s`.
 pub const MEMORY: usize = SLOTS * SLOT;
 
 // What every call refuses before it looks at its node and slot, where there are or are to be so many nodes.

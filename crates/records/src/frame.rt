@@ -73,8 +73,8 @@ pub fn encode_run<E: Record, const N: usize>(
 }
 
 /// Reads a frame of a kind with at least `fewest` records into the front of `out`, which has a place for each of its most
-/// records, and answers how many it has; the other places stay, and on a refusal all of them. It refuses bytes that are
-/// no such frame.
+/// records, and answers how many it has; the other places stay, and on a refusal all of them. It refuses with `Short`, then
+/// `OtherKind`, then `Count`, and then with `End` an end that is not both the number of bytes and what the count asks for.
 pub fn decode_records<E: Record>(
     kind: u8,
     fewest: u8,

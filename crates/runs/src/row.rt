@@ -18,6 +18,7 @@ pub struct Row<E, const N: usize> {
 
 /// A row that passed the check: its elements rise strictly, and its other places are unused.
 pub struct Run<E: Element, const N: usize> {
+    /// the row, in which nothing may be changed that breaks the check
     pub row: Row<E, N>,
     ghost kept: { T (keeps E.Ord.cmp E.Element.blank row) },
 }

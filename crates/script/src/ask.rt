@@ -213,8 +213,8 @@ fn read_usage(stage: Stage, text: &[u8]) -> Result<usize, LineFault>
 ///
 /// # Errors
 ///
-/// The first of these that the line earns: a letter of no call, or none; a letter that does not fit the stage; a wrong form
-/// anywhere in the line; a number too great anywhere in it; a page of a kind that has none.
+/// The first of these that applies: 20, a letter of no call, or none; 23, a letter that does not fit the stage; 21, a wrong form
+/// anywhere in the line; 22, a number too great anywhere in it; 24, a page of a kind that has none.
 #[tactic(auto, using(crate::proofs::Spelled::reads_back))]
 pub fn read_line(line: &[u8], stage: Stage, room: &mut [u8; ROOM]) -> Result<Request, LineFault>
     ensures asked { shown result room.new ≡ asked stage line.now }

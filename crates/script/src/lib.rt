@@ -1,4 +1,4 @@
-//! Scripts: the lines of an input, what each line asks for, and why it is refused.
+// Scripts: the lines of an input, what each line asks for, and why it is refused.
 #![tactic(auto)]
 
 pub mod ask;

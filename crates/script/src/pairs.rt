@@ -5,7 +5,7 @@ ghost use Rattle.script.specs.Fields.{is_hex, hex_value, are_pairs, pair_bytes};
 
 use synopsis::kind::LONGEST;
 
-/// The bytes of room that a line needs at most: those that any line shows, and those of any frame.
+/// How many bytes of room a line may need: 2,048, those of the longest frame.
 pub const ROOM: usize = LONGEST;
 
 // Whether a byte is a capital hex digit.

@@ -8,7 +8,7 @@ use session::replay::replay_script;
 use std::io::{BufWriter, Read, Write};
 use std::str;
 
-// The first script of an input, and what comes after it: each is told by its count of bytes, on a line in front of it.
+// The first script of an input, and what comes after it: each script follows a line with its length in bytes.
 fn next_script(rest: &[u8]) -> Option<(&[u8], &[u8])>
     ensures shorter { IfSome result (λ r. length r.1.now < length rest.now) }
 {

@@ -1,5 +1,5 @@
 // What a line is answered, and the line of output that says so.
-ghost use Rattle.std.specs.Prelude.{◌≡◌, Some, IfSome, OnOk};
+ghost use Rattle.std.specs.Prelude.{◌≡◌, [], Some, IfSome, OnOk};
 ghost use Rattle.diffusion.specs.Turns.{tells};
 ghost use Rattle.script.specs.Faults.{reason_text};
 ghost use Rattle.session.specs.Answers.{said_tells};
@@ -20,7 +20,7 @@ pub const LINE: usize = 20 + 1 + 2 * synopsis::kind::LONGEST + 1;
 pub enum Said<'a> {
     /// what its call answers
     Told(Answer<'a>),
-    /// why it asks for none
+    /// why the line asks for no call
     Bad(LineFault),
 }
 
@@ -53,14 +53,17 @@ impl fmt::Display for Said<'_> {
 /// A line of output, in fixed room: the number of the line of input that it answers, and its text.
 #[derive(Drop)]
 pub struct OutputLine {
+    /// the number of the line of input that it answers
     pub number: u64,
+    /// what it says, with the byte 10 that ends it
     pub text: ArrayString<LINE>,
 }
 
 impl OutputLine {
     /// A line that says nothing yet.
     pub fn new(number: u64) -> OutputLine
-        ensures { result.number ≡ number }
+        ensures number { result.number ≡ number }
+        ensures text { result.text.bytes ≡ [] }
     {
         OutputLine {
             number,

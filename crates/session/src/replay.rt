@@ -66,7 +66,7 @@ fn play<S: Paged, W: Write>(
     Ok(())
 }
 
-// Opens a network of a kind, and serves the lines after that if it was opened, as it answers.
+// Opens a network of a kind, and serves the lines that follow if it was opened; whether it was.
 fn open<S: Paged, W: Write>(
     values: &mut [S],
     memory: &mut [u8],
@@ -135,7 +135,7 @@ fn refuse<W: Write>(writer: &mut W, number: u64, fault: LineFault) -> io::Result
     Ok(false)
 }
 
-// Answers a request where nothing is open, and all lines after it if it opens a network, as it answers.
+// Answers a request where nothing is open, and all lines after it if it opens a network; whether it does.
 fn serve_request<W: Write>(
     memory: &mut [u8],
     number: u64,
@@ -193,7 +193,8 @@ fn replay_lines<W: Write>(memory: &mut [u8], input: &[u8], writer: &mut W) -> io
     Ok(())
 }
 
-/// Replays a script: writes what is printed for these bytes, or after an error of the writer a front part of it.
+/// Replays a script: writes what is printed for these bytes, or after an error of the writer a front part of it. For more than
+/// 65,536 bytes that is `0 no 25` alone.
 pub fn replay_script<W: Write>(input: &[u8], writer: &mut W) -> io::Result<()>
     ensures { Wrote result (W.contents writer.old) (W.contents writer.new) (printed input.now) }
 {

@@ -103,8 +103,9 @@ fn answer_line<S: Paged>(
 }
 
 /// Serves one line on an open network: makes the call that it asks for, and writes one line of output with this number. The
-/// line comes without the byte 10 that ends it. After an error a front part of the output line was written; the call is made
-/// all the same.
+/// line comes without the byte 10 that ends it; one that opens a network is answered with 23. After an error a front part of
+/// the output line was written; the call is made all the same. The promise is for values and memory that only calls of this
+/// network changed since it was opened.
 pub fn serve_line<S: Paged, W: Write>(
     network: &mut Network,
     values: &mut [S],

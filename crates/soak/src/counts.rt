@@ -8,7 +8,7 @@ use std::fmt;
 const NUMBERS: usize = 14;
 
 #[derive(Clone, Copy)]
-pub struct Counts {
+pub(crate) struct Counts {
     accepted: u64,
     // how many were refused with each number
     refused: [u64; NUMBERS],

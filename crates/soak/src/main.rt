@@ -1,5 +1,5 @@
-// Makes many turns, told by a seed, on a network of seven nodes, in memory that is there from the start. Each line of standard
-// input names a kind, a seed and how many turns to make; for each it prints a line.
+// Makes many turns, drawn from a seed, on a network of seven nodes, in memory that is there from the start. Each line of
+// standard input names a kind, a seed and how many turns to make; for each it prints a line.
 #![tactic(auto)]
 
 mod counts;

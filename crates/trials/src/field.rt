@@ -5,7 +5,7 @@ use std::str::FromStr;
 
 // Why a line has no answer: its form is wrong, or memory ran out.
 #[derive(Clone, Copy)]
-pub enum Fault {
+pub(crate) enum Fault {
     Form,
     Memory,
 }

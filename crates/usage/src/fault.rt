@@ -12,7 +12,7 @@ pub enum PageFault {
 }
 
 impl PageFault {
-    /// The number of the refusal.
+    /// The number of the refusal: 26.
     pub fn number(self) -> u8
         ensures { result ≡ page_number self }
     {

@@ -20,9 +20,9 @@ pub struct Header {
     pub first: u16,
     /// where the last one ends, which is the length of the page
     pub end: u16,
-    /// how many different readings the bitmaps tell of
+    /// the bitmaps' estimate of how many different items were read
     pub bitmap_estimate: u64,
-    /// how many different readings the least values tell of
+    /// the least values' estimate of the same
     pub least_estimate: u64,
     /// S of the bitmaps
     pub sum: u32,

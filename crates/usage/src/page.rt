@@ -15,7 +15,7 @@ use sample::row::SampleRun;
 // How many rows a page has at most, since a sample has so many records.
 const MOST: usize = 32;
 
-/// How many bytes are asked for any page: those of the longest.
+/// How many bytes of room `usage` asks for: 480, the length of the longest page.
 pub const LEAST_ROOM: usize = HEADER + MOST * WIDTH;
 
 // The tenants of some records, rising, each once.
