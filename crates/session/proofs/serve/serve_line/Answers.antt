@@ -16,6 +16,6 @@ pub returns : goal.returns
 returns g c nodes h s =
     let a = c.answer_line.ensures nodes h s in
     let text = was_ok c.answer_line.result _ (sym c.is_err.ensures.value ∙ c.if-is_err.false) a.0 in (
-      subst (Wrote c.put.result (g.W.Write.contents c.args.writer.now) (g.W.Write.contents c.put.new.writer)) (c.as_bytes.ensures.value ∙ c.as_str.ensures.value ∙ text ∙ ap (λ (n : ℕ). line_text n (open_owes g.S.Synopsis.kind g.S.Paged.page nodes h (asked (Open (is_some g.S.Paged.page)) c.args.line.now))) c.new-output.ensures) c.put.ensures,
+      subst (Wrote c.put.result (g.W.Write.contents c.args.writer.now) (g.W.Write.contents c.put.new.writer)) (c.as_bytes.ensures.value ∙ c.as_str.ensures.value ∙ text ∙ ap (λ (n : ℕ). line_text n (open_owes g.S.Synopsis.kind g.S.Paged.page nodes h (asked (Open (is_some g.S.Paged.page)) c.args.line.now))) c.new-output.ensures.number) c.put.ensures,
       a.1,
     )
