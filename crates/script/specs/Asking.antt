@@ -134,17 +134,42 @@ called r = r >>= (λ call. Ok (ask.Call call))
 abbrev pub used : Result ℕ LineFault → Result Ask LineFault
 used r = r >>= (λ node. Ok (ask.Usage node))
 
+-- what a line asks for, by what follows its letter
+abbrev pub asked_open : Stage → List ℕ → Result Ask LineFault
+asked_open stage rest = opened (opening stage rest >>= opens)
+
+abbrev pub asked_generate : Stage → List ℕ → Result Ask LineFault
+asked_generate stage rest = called (calling stage rest >>= generates)
+
+abbrev pub asked_arrive : Stage → List ℕ → Result Ask LineFault
+asked_arrive stage rest = called (calling stage rest >>= arrives)
+
+abbrev pub asked_send : Stage → List ℕ → Result Ask LineFault
+asked_send stage rest = called (calling stage rest >>= sends)
+
+abbrev pub asked_deliver : Stage → List ℕ → Result Ask LineFault
+asked_deliver stage rest = called (calling stage rest >>= delivers)
+
+abbrev pub asked_drop : Stage → List ℕ → Result Ask LineFault
+asked_drop stage rest = called (calling stage rest >>= drops)
+
+abbrev pub asked_read : Stage → List ℕ → Result Ask LineFault
+asked_read stage rest = called (calling stage rest >>= reads)
+
+abbrev pub asked_usage : Stage → List ℕ → Result Ask LineFault
+asked_usage stage rest = used (calling stage rest >>= usages (has_page stage))
+
 -- what a line asks for, by the letter that opens it: o, g, a, s, d, x, r, u
 abbrev pub asked_by : Stage → ℕ → List ℕ → Result Ask LineFault
 asked_by stage c rest =
-    cond (c == 111) (opened (opening stage rest >>= opens))
-    (cond (c == 103) (called (calling stage rest >>= generates))
-    (cond (c == 97) (called (calling stage rest >>= arrives))
-    (cond (c == 115) (called (calling stage rest >>= sends))
-    (cond (c == 100) (called (calling stage rest >>= delivers))
-    (cond (c == 120) (called (calling stage rest >>= drops))
-    (cond (c == 114) (called (calling stage rest >>= reads))
-    (cond (c == 117) (used (calling stage rest >>= usages (has_page stage)))
+    cond (c == 111) (asked_open stage rest)
+    (cond (c == 103) (asked_generate stage rest)
+    (cond (c == 97) (asked_arrive stage rest)
+    (cond (c == 115) (asked_send stage rest)
+    (cond (c == 100) (asked_deliver stage rest)
+    (cond (c == 120) (asked_drop stage rest)
+    (cond (c == 114) (asked_read stage rest)
+    (cond (c == 117) (asked_usage stage rest)
     (Err fault.Letter))))))))
 
 abbrev pub asked : Stage → List ℕ → Result Ask LineFault

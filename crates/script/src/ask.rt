@@ -1,8 +1,7 @@
 // What a line of a script asks for.
-ghost use Rattle.std.specs.Prelude.{◌≡◌};
-ghost use Rattle.script.specs.Lines.{fields};
+ghost use Rattle.std.specs.Prelude.{◌≡◌, ℕ, List};
 ghost use Rattle.script.specs.Spelling.{ReadsBack};
-ghost use Rattle.script.specs.Asking.{kind_of, fields_of, fields_now, opening, calling, has_page, seen, seen_ask, ask_of, shown, called, opens, generates, arrives, sends, delivers, drops, reads, usages, asked, room_after};
+ghost use Rattle.script.specs.Asking.{kind_of, fields_of, fields_now, opening, calling, seen_ask, ask_of, shown, asked_open, asked_generate, asked_arrive, asked_send, asked_deliver, asked_drop, asked_read, asked_usage, asked, room_after};
 
 use crate::digits::{index, long, number, short};
 use crate::fault::LineFault;
@@ -120,21 +119,23 @@ fn calling(stage: Stage, rest: &[u8]) -> Result<&[u8], LineFault>
     }
 }
 
-// What opens a network: its kind, and how many nodes it has.
-fn read_open(text: &[u8]) -> Result<(KindLetter, usize), LineFault>
-    ensures { result ≡ opens (fields text.now) }
+// The opening of a network: its kind, and how many nodes it has.
+fn read_open(stage: Stage, rest: &[u8]) -> Result<Request, LineFault>
+    ensures asked { (room : List ℕ) → shown result room ≡ asked_open stage rest.now }
+    ensures room { (room : List ℕ) → room ≡ room_after (asked_open stage rest.now) room }
 {
-    let (kind, count) = two(text)?;
+    let (kind, count) = two(opening(stage, rest)?)?;
     let (kind, count) = (kind_of(kind)?, number(count)?);
     let nodes = index(count)?;
-    Ok((kind, nodes))
+    Ok(Request::Open { kind, nodes })
 }
 
 // A reading that a node generates.
-fn read_generate(text: &[u8]) -> Result<Call<'static>, LineFault>
-    ensures { seen result ≡ generates (fields text.now) }
+fn read_generate(stage: Stage, rest: &[u8]) -> Result<Request, LineFault>
+    ensures asked { (room : List ℕ) → shown result room ≡ asked_generate stage rest.now }
+    ensures room { (room : List ℕ) → room ≡ room_after (asked_generate stage rest.now) room }
 {
-    let (node, tenant, item, amount) = four(text)?;
+    let (node, tenant, item, amount) = four(calling(stage, rest)?)?;
     let (node, tenant) = (number(node)?, number(tenant)?);
     let (item, amount) = (number(item)?, number(amount)?);
     let node = index(node)?;
@@ -143,15 +144,15 @@ fn read_generate(text: &[u8]) -> Result<Call<'static>, LineFault>
         item: long(item)?,
         amount: long(amount)?,
     };
-    Ok(Call::Generate { node, reading })
+    Ok(Request::Call(Call::Generate { node, reading }))
 }
 
 // An arrival, whose frame goes to the front of the room.
-fn read_arrive(text: &[u8], room: &mut [u8; ROOM]) -> Result<Request, LineFault>
-    ensures asked { shown result room.new ≡ called (arrives (fields text.now)) }
-    ensures room { room.new ≡ room_after (called (arrives (fields text.now))) room.old }
+fn read_arrive(stage: Stage, rest: &[u8], room: &mut [u8; ROOM]) -> Result<Request, LineFault>
+    ensures asked { shown result room.new ≡ asked_arrive stage rest.now }
+    ensures room { room.new ≡ room_after (asked_arrive stage rest.now) room.old }
 {
-    let (node, pairs) = two(text)?;
+    let (node, pairs) = two(calling(stage, rest)?)?;
     let node = number(node)?;
     if !are_pairs(pairs) {
         return Err(LineFault::Form);
@@ -162,48 +163,53 @@ fn read_arrive(text: &[u8], room: &mut [u8; ROOM]) -> Result<Request, LineFault>
 }
 
 // A sending into a slot.
-fn read_send(text: &[u8]) -> Result<Call<'static>, LineFault>
-    ensures { seen result ≡ sends (fields text.now) }
+fn read_send(stage: Stage, rest: &[u8]) -> Result<Request, LineFault>
+    ensures asked { (room : List ℕ) → shown result room ≡ asked_send stage rest.now }
+    ensures room { (room : List ℕ) → room ≡ room_after (asked_send stage rest.now) room }
 {
-    let (node, slot) = two(text)?;
+    let (node, slot) = two(calling(stage, rest)?)?;
     let (node, slot) = (number(node)?, number(slot)?);
     let (node, slot) = (index(node)?, index(slot)?);
-    Ok(Call::Send { node, slot })
+    Ok(Request::Call(Call::Send { node, slot }))
 }
 
 // A delivery from a slot.
-fn read_deliver(text: &[u8]) -> Result<Call<'static>, LineFault>
-    ensures { seen result ≡ delivers (fields text.now) }
+fn read_deliver(stage: Stage, rest: &[u8]) -> Result<Request, LineFault>
+    ensures asked { (room : List ℕ) → shown result room ≡ asked_deliver stage rest.now }
+    ensures room { (room : List ℕ) → room ≡ room_after (asked_deliver stage rest.now) room }
 {
-    let (slot, node) = two(text)?;
+    let (slot, node) = two(calling(stage, rest)?)?;
     let (slot, node) = (number(slot)?, number(node)?);
     let (slot, node) = (index(slot)?, index(node)?);
-    Ok(Call::Deliver { slot, node })
+    Ok(Request::Call(Call::Deliver { slot, node }))
 }
 
 // A slot that is freed.
-fn read_drop(text: &[u8]) -> Result<Call<'static>, LineFault>
-    ensures { seen result ≡ drops (fields text.now) }
+fn read_drop(stage: Stage, rest: &[u8]) -> Result<Request, LineFault>
+    ensures asked { (room : List ℕ) → shown result room ≡ asked_drop stage rest.now }
+    ensures room { (room : List ℕ) → room ≡ room_after (asked_drop stage rest.now) room }
 {
-    let slot = index(number(one(text)?)?)?;
-    Ok(Call::Drop { slot })
+    let slot = index(number(one(calling(stage, rest)?)?)?)?;
+    Ok(Request::Call(Call::Drop { slot }))
 }
 
 // A node that is read, with room for any frame.
-fn read_read(text: &[u8]) -> Result<Call<'static>, LineFault>
-    ensures { seen result ≡ reads (fields text.now) }
+fn read_read(stage: Stage, rest: &[u8]) -> Result<Request, LineFault>
+    ensures asked { (room : List ℕ) → shown result room ≡ asked_read stage rest.now }
+    ensures room { (room : List ℕ) → room ≡ room_after (asked_read stage rest.now) room }
 {
-    let node = index(number(one(text)?)?)?;
-    Ok(Call::Read { node, room: ROOM })
+    let node = index(number(one(calling(stage, rest)?)?)?)?;
+    Ok(Request::Call(Call::Read { node, room: ROOM }))
 }
 
 // The node of a usage page.
-fn read_usage(stage: Stage, text: &[u8]) -> Result<usize, LineFault>
-    ensures { result ≡ usages (has_page stage) (fields text.now) }
+fn read_usage(stage: Stage, rest: &[u8]) -> Result<Request, LineFault>
+    ensures asked { (room : List ℕ) → shown result room ≡ asked_usage stage rest.now }
+    ensures room { (room : List ℕ) → room ≡ room_after (asked_usage stage rest.now) room }
 {
-    let node = index(number(one(text)?)?)?;
+    let node = index(number(one(calling(stage, rest)?)?)?)?;
     match stage {
-        Stage::Open { pages: true } => Ok(node),
+        Stage::Open { pages: true } => Ok(Request::Usage { node }),
         _ => Err(LineFault::Page),
     }
 }
@@ -225,20 +231,14 @@ pub fn read_line(line: &[u8], stage: Stage, room: &mut [u8; ROOM]) -> Result<Req
         return Err(LineFault::Letter);
     };
     match char::from(*letter) {
-        'o' => {
-            let (kind, nodes) = read_open(opening(stage, rest)?)?;
-            Ok(Request::Open { kind, nodes })
-        }
-        'g' => Ok(Request::Call(read_generate(calling(stage, rest)?)?)),
-        'a' => read_arrive(calling(stage, rest)?, room),
-        's' => Ok(Request::Call(read_send(calling(stage, rest)?)?)),
-        'd' => Ok(Request::Call(read_deliver(calling(stage, rest)?)?)),
-        'x' => Ok(Request::Call(read_drop(calling(stage, rest)?)?)),
-        'r' => Ok(Request::Call(read_read(calling(stage, rest)?)?)),
-        'u' => {
-            let node = read_usage(stage, calling(stage, rest)?)?;
-            Ok(Request::Usage { node })
-        }
+        'o' => read_open(stage, rest),
+        'g' => read_generate(stage, rest),
+        'a' => read_arrive(stage, rest, room),
+        's' => read_send(stage, rest),
+        'd' => read_deliver(stage, rest),
+        'x' => read_drop(stage, rest),
+        'r' => read_read(stage, rest),
+        'u' => read_usage(stage, rest),
         _ => Err(LineFault::Letter),
     }
 }

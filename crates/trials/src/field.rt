@@ -1,7 +1,6 @@
 // Reads the fields of a line.
 use hex::{FromHex, FromHexError};
 use std::alloc::{AllocError, Global};
-use std::str::FromStr;
 
 // Why a line has no answer: its form is wrong, or memory ran out.
 #[derive(Clone, Copy)]
@@ -49,12 +48,19 @@ pub(crate) fn word(text: &str) -> Result<u64, Fault> {
 }
 
 // A decimal number without a needless leading zero.
-pub(crate) fn number<N: FromStr>(text: &str) -> Result<N, Fault>
-where
-    N::Err: Drop,
-{
-    match text.as_bytes() {
-        [b'0'] | [b'1'..=b'9', ..] => text.parse().ok().ok_or(Fault::Form),
-        _ => Err(Fault::Form),
+pub(crate) fn number(text: &str) -> Result<u64, Fault> {
+    let is_plain = match text.as_bytes() {
+        [b'0', _, ..] => false,
+        [first, ..] => first.is_ascii_digit(),
+        [] => false,
+    };
+    if !is_plain {
+        return Err(Fault::Form);
     }
+    text.parse().map_err(|_| Fault::Form)
+}
+
+// The same of a count or a size.
+pub(crate) fn size(text: &str) -> Result<usize, Fault> {
+    Ok(number(text)? as usize)
 }

@@ -1,5 +1,5 @@
 // The cases of one kind.
-use crate::field::{Fault, bytes, number};
+use crate::field::{Fault, bytes, size};
 use crate::text::{frame, shown, written};
 use bitmaps::maps::Bitmaps;
 use layers::pair::Pair;
@@ -198,7 +198,7 @@ pub(crate) fn answer<S: Odd>(heap: Global, fields: &[&str]) -> Result<String, Fa
     match fields {
         ["kind"] => Ok(itself::<S>(heap)?),
         ["decode", text] => Ok(decoded::<S>(heap, &bytes(heap, text)?, false)?),
-        ["encode", text, room] => encoded::<S>(heap, &bytes(heap, text)?, number(room)?),
+        ["encode", text, room] => encoded::<S>(heap, &bytes(heap, text)?, size(room)?),
         _ => Ok(all_decoded::<S>(heap, &many(heap, fields)?)?),
     }
 }

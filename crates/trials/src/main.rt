@@ -45,7 +45,10 @@ fn of_hashes(heap: Global, fields: &[&str]) -> Result<String, Fault> {
             format!(in heap; "{bucket} {rank}")?
         }
         ["outputs", seed, count] => outputs(heap, number(seed)?, number(count)?)?,
-        ["lowest", map] => lowest_zero(number(map)?).to_string(heap)?,
+        ["lowest", map] => {
+            let map = u32::try_from(number(map)?).ok().ok_or(Fault::Form)?;
+            lowest_zero(map).to_string(heap)?
+        }
         _ => return Err(Fault::Form),
     })
 }

@@ -1,7 +1,7 @@
 // Plain rows, which need not be runs, for the two kinds that have them.
 ghost use Rattle.std.specs.Prelude.{◌<◌, ◌^◌};
 
-use crate::field::{Fault, bytes, number};
+use crate::field::{Fault, bytes, size};
 use crate::kind::single;
 use crate::text::written;
 use least::row::LeastValues;
@@ -22,7 +22,7 @@ fn read_row<R: Record + Fresh, const W: usize, const N: usize>(
     requires some { 0 < W }
     requires fits { W < 2 ^ 63 }
 {
-    let count = number(count)?;
+    let count = size(count)?;
     let bytes = bytes(heap, elements)?;
     let (parts, rest) = bytes.as_slice().as_chunks::<W>();
     if !rest.is_empty() || parts.len() > N {
