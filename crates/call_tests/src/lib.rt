@@ -1,4 +1,4 @@
-// Tests of the calls and of replays. They have a crate of their own, since a crate with tests is proved twice.
+// Tests of the calls and of replays.
 #![tactic(auto)]
 
 #[cfg(test)]

@@ -102,6 +102,11 @@ impl<A: Synopsis, B: Synopsis> Synopsis for Pair<A, B> {
         self.second.fuse(&other.second);
     }
 
+    fn add(&mut self, reading: Reading) {
+        self.first.add(reading);
+        self.second.add(reading);
+    }
+
     fn length(&self) -> usize {
         if Self::is_overlong() {
             return OVERLONG;

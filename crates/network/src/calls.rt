@@ -46,6 +46,14 @@ fn fuse_at<S: Synopsis>(values: &mut [S], node: usize, other: &S)
     values[node].fuse(other);
 }
 
+// Adds a reading to one of the values.
+fn add_at<S: Synopsis>(values: &mut [S], node: usize, reading: Reading)
+    requires { node < length values.old }
+    ensures { Fused S.Synopsis.form values.old values.new node (S.Synopsis.kind.join (value_form S.Synopsis.kind S.Synopsis.form values.old node) (S.Synopsis.kind.single reading)) }
+{
+    values[node].add(reading);
+}
+
 // Makes the first values empty.
 fn empty_front<S: Synopsis>(values: &mut [S], nodes: usize)
     requires { nodes ≤ length values.old }
@@ -126,7 +134,7 @@ impl Network {
     {
         check_lent(self.count, values, memory)?;
         self.check_node(node)?;
-        fuse_at(values, node, &S::make(reading));
+        add_at(values, node, reading);
         Ok(())
     }
 

@@ -190,9 +190,6 @@ seen_ask (ask.Open kind nodes) = ask.Open kind nodes
 seen_ask (ask.Call call) = ask.Call (seen_call call)
 seen_ask (ask.Usage node) = ask.Usage node
 
-abbrev pub seen : Result Call LineFault → Result Call LineFault
-seen r = r >>= (λ call. Ok (seen_call call))
-
 -- what a request asks for, with the bytes of a room
 abbrev pub ask_of : Request → List ℕ → Ask
 ask_of (request.Open kind nodes) room = ask.Open kind nodes

@@ -54,6 +54,13 @@ pub trait Synopsis: Sized + Drop {
     fn fuse(&mut self, other: &Self)
         ensures { form self.new ≡ kind.join (form self.old) (form other.now) };
 
+    /// ADD: counts one more reading, as FUSE of what MAKE gives does.
+    fn add(&mut self, reading: Reading)
+        ensures { form self.new ≡ kind.join (form self.old) (kind.single reading) }
+    {
+        self.fuse(&Self::make(reading));
+    }
+
     /// LENGTH: the length of the encoding, in bytes; 2,049 for an overlong kind.
     fn length(&self) -> usize
         ensures { result ≡ frame_length kind (form self.now) };
