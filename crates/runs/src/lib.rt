@@ -2,6 +2,7 @@
 #![tactic(auto)]
 
 pub mod element;
+mod place;
 pub mod row;
 pub mod run;
 pub mod union;

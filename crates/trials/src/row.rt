@@ -9,7 +9,7 @@ use records::record::Record;
 use runs::element::Fresh;
 use runs::row::Row;
 use sample::record::SampleRecord;
-use sample::row::{Sample, SampleRun};
+use sample::row::Sample;
 use std::alloc::{AllocError, Global};
 use synopsis::kind::Synopsis;
 
@@ -52,6 +52,6 @@ pub(crate) fn of_least(heap: Global, count: &str, elements: &str) -> Result<Stri
 
 pub(crate) fn of_sample(heap: Global, count: &str, elements: &str) -> Result<String, Fault> {
     let row = read_row::<SampleRecord, 20, 32>(heap, count, elements)?;
-    let records = SampleRun::of(&row).as_slice().len();
+    let records = row.items().len();
     Ok(told(heap, Sample { row }, records as u64)?)
 }
