@@ -54,7 +54,7 @@ impl Synopsis for LeastValues {
     }
 
     fn fuse(&mut self, other: &Self) {
-        self.row.join(&other.row);
+        self.row.join(&other.row, [0; 64], [0; 64]);
     }
 
     fn add(&mut self, reading: Reading) {

@@ -1,24 +1,32 @@
 -- What may enter a run, and where: what a run keeps of a union with others.
-use Rattle.std.proofs.Common.{◌≡◌, ℕ, zero, suc, ◌+◌, ◌-◌, ◌<◌, ◌≤◌, T, ◌⊎◌, List, [], ◌∷◌, ◌++◌, length, take, drop, get_or, Ordering, Less, Equal, Greater, Ok, Err, Result, sym, refl, ap, ◌∙◌, subst, inl, inr, ⊎_elim, arith}
+use Rattle.std.proofs.Common.{◌≡◌, ℕ, zero, suc, ◌+◌, ◌-◌, ◌<◌, ◌≤◌, Bool, true, false, T, leb, ◌⊎◌, List, [], ◌∷◌, ◌++◌, length, map, take, drop, get_or, Ordering, Less, Equal, Greater, sym, refl, ap, ◌∙◌, subst, inl, inr, ⊎_elim, arith}
+use mathlib.Core.Bool.{true≢false}
 use Rattle.std.proofs.lemmas.Bool.{cases_lt}
-use Rattle.std.proofs.lemmas.List.{get_or-take, length-take-le, take_all, append-nil}
-use Rattle.std.specs.List.{AllByRecursion, AllWithin, HoldsAt}
-use Rattle.std.specs.List.Sorted.{IsNonDecreasingBy, IsBinarySearchResult, IsSearchInRange}
-use Rattle.std.specs.Ordering.{ordering_index}
+use Rattle.std.proofs.lemmas.Bool.Decides.{nat_tests}
+use Rattle.std.proofs.lemmas.List.{get_or-take, get_or-map, length-map, length-take-le}
+use Rattle.std.specs.List.{AllByRecursion, AllWithin}
+use Rattle.std.specs.List.Sorted.{IsNonDecreasingBy}
+use Rattle.std.specs.Ordering.{nat_cmp, ordering_index, is_lt, is_ge}
 use Rattle.runs.specs.Order.{Lawful}
-use Rattle.runs.specs.Runs.{rising}
+use Rattle.runs.specs.Runs.{rising, rising_from}
 use Rattle.runs.specs.Union.{Among, Least, Either, pick, against, merge, union_of, Joins}
 use Rattle.runs.proofs.Orders.{lawful_self}
-use Rattle.runs.proofs.Rising.{all_among, all_from_among, above, rest_rises, less_turned}
+use Rattle.runs.proofs.Rising.{both, is_less, holds_from, all_among, all_from_among, above, rest_rises, never_less}
 use Rattle.runs.proofs.Unions.{own, like, widen, joins, union_means, take_rises, from_take}
 
--- elements by their places
+-- elements by their places, where it does not matter what would stand elsewhere
+pub any_default : {E : Type 0} (xs : List E) (i : ℕ) (d e : E) → i < length xs → get_or xs i d ≡ get_or xs i e
+any_default [] i d e lt = absurd (omega arith)
+any_default (x ∷ xs) zero d e lt = refl
+any_default (x ∷ xs) (suc i) d e lt = any_default xs i d e (omega arith)
+
 pub among_at : {E : Type 0} (xs : List E) (i : ℕ) (d : E) → i < length xs → Among (get_or xs i d) xs
 among_at [] i d lt = absurd (omega arith)
 among_at (x ∷ xs) zero d lt = inl refl
 among_at (x ∷ xs) (suc i) d lt = inr (among_at xs i d (omega arith))
 
-place_of : {E : Type 0} (xs : List E) (d x : E) → Among x xs → (i : ℕ) × (i < length xs) × (x ≡ get_or xs i d)
+-- and the place of one
+pub place_of : {E : Type 0} (xs : List E) (d x : E) → Among x xs → (i : ℕ) × (i < length xs) × (x ≡ get_or xs i d)
 place_of [] d x m = absurd m
 place_of (y ∷ ys) d x m = ⊎_elim (λ e. (0, omega arith, e)) (λ n. let p = place_of ys d x n in (suc p.0, omega (arith, p.1), p.2)) m
 
@@ -36,9 +44,13 @@ split_at {E} xs at d x le m = by (place_of xs d x m)
         (λ ge. inr (p.0, ge, p.1, p.2))
         (cases_lt p.0 at)
 
+-- a greater number is ordered no lower
+index_up : (l m n : ℕ) → l ≤ m → ordering_index (nat_cmp l n) ≤ ordering_index (nat_cmp m n)
+index_up l m n le = grind (arith, nat_tests)
+
 module _ {E : Type 0} (order : E → E → Ordering) (laws : Lawful order) where
   -- an element of a run is less than each later one
-  rise_at : (xs : List E) (i j : ℕ) (d : E) → T (rising order xs) → i < j → j < length xs → order (get_or xs i d) (get_or xs j d) ≡ Less
+  pub rise_at : (xs : List E) (i j : ℕ) (d : E) → T (rising order xs) → i < j → j < length xs → order (get_or xs i d) (get_or xs j d) ≡ Less
   rise_at [] i j d h lt inside = absurd (omega arith)
   rise_at (x ∷ xs) i zero d h lt inside = absurd (omega arith)
   rise_at (x ∷ xs) zero (suc j) d h lt inside = all_among (λ y. order x y ≡ Less) xs (above order laws x xs h) (get_or xs j d) (among_at xs j d (omega arith))
@@ -132,22 +144,67 @@ module _ {E : Type 0} (order : E → E → Ordering) (laws : Lawful order) where
       (λ e. inr (below_last xs x d hx (omega arith) (subst (λ (w : E). order (get_or xs (length xs - 1) d) w ≡ Less) (sym p.3) e)))
       (later p.0 p.1 p.2))) (split_at ys end d x le m))
 
-  -- what a search for an element tells of those from the place that it answers on: none is less
-  pub searched_from : (ys : List E) (z : E) (r : Result ℕ ℕ) (end : ℕ) → T (rising order ys) → IsSearchInRange r (length ys) → IsBinarySearchResult (λ y. order y z) ys r → (r ≡ Ok end) ⊎ (r ≡ Err end)
-      → (end ≤ length ys) × ((i : ℕ) (d : E) → end ≤ i → i < length ys → (get_or ys i d ≡ z) ⊎ (order z (get_or ys i d) ≡ Less))
-  searched_from ys z r end h range position e = ⊎_elim found missed e
-    where
-      found : r ≡ Ok end → (end ≤ length ys) × ((i : ℕ) (d : E) → end ≤ i → i < length ys → (get_or ys i d ≡ z) ⊎ (order z (get_or ys i d) ≡ Less))
-      found q =
-          let lt : end < length ys = subst (λ (s : Result ℕ ℕ). IsSearchInRange s (length ys)) q range in
-          let at : HoldsAt (λ y. order y z ≡ Equal) ys end = subst (λ (s : Result ℕ ℕ). IsBinarySearchResult (λ y. order y z) ys s) q position in
-          (omega arith, λ i d le in_ys. ⊎_elim
-          (λ less. inr (subst (λ (w : E). order w (get_or ys i d) ≡ Less) (laws.same (get_or ys end d) z (at d)) (rise_at ys end i d h less in_ys)))
-          (λ more. let k : end ≡ i = omega arith in inl (ap (λ (j : ℕ). get_or ys j d) (sym k) ∙ laws.same (get_or ys end d) z (at d)))
-          (cases_lt end i))
+  -- a list in which each is less than the next is a run
+  rises_from : (x : E) (xs : List E) → ((j : ℕ) (d : E) → suc j < suc (length xs) → order (get_or (x ∷ xs) j d) (get_or (x ∷ xs) (suc j) d) ≡ Less) → T (rising_from order x xs)
+  rises_from x [] h = tt
+  rises_from x (y ∷ ys) h =
+      both (is_lt (order x y)) (rising_from order y ys) (is_less (order x y) (h 0 y (omega arith))) (rises_from y ys (λ j d lt. h (suc j) d (omega arith)))
 
-      missed : r ≡ Err end → (end ≤ length ys) × ((i : ℕ) (d : E) → end ≤ i → i < length ys → (get_or ys i d ≡ z) ⊎ (order z (get_or ys i d) ≡ Less))
-      missed q =
-          let le : end ≤ length ys = subst (λ (s : Result ℕ ℕ). IsSearchInRange s (length ys)) q range in
-          let cut = subst (λ (s : Result ℕ ℕ). IsBinarySearchResult (λ y. order y z) ys s) q position (answers_rise ys z h) in
-          (le, λ i d from in_ys. inr (less_turned order laws (get_or ys i d) z (cut.1 i d from in_ys)))
+  pub rises_by_places : (xs : List E) → ((j : ℕ) (d : E) → suc j < length xs → order (get_or xs j d) (get_or xs (suc j) d) ≡ Less) → T (rising order xs)
+  rises_by_places [] h = tt
+  rises_by_places (x ∷ xs) h = rises_from x xs h
+
+  -- and one in which one is not is none
+  pub falls_at : (xs : List E) (i : ℕ) (d : E) → 0 < i → i < length xs → is_ge (order (get_or xs (i - 1) d) (get_or xs i d)) ≡ true → false ≡ rising order xs
+  falls_at xs i d some lt e = by (rising order xs) refl
+    where
+      by : (b : Bool) → rising order xs ≡ b → false ≡ b
+      by false f = refl
+      by true f =
+          let less = rise_at xs (i - 1) i d (holds_from (rising order xs) f) (omega arith) lt in
+          absurd (true≢false (sym e ∙ ap is_ge less))
+
+  -- the keys of a run do not fall, so that they can be searched
+  module _ (key : E → ℕ) (keyed : (x y : E) → key x < key y → order x y ≡ Less) where
+    pub keys_rise : (xs : List E) (i j : ℕ) (d : E) → T (rising order xs) → i ≤ j → j < length xs → key (get_or xs i d) ≤ key (get_or xs j d)
+    keys_rise xs i j d h le lt = ⊎_elim
+        (λ below. absurd (never_less order laws (get_or xs i d) (before below)))
+        (λ not_below. not_below)
+        (cases_lt (key (get_or xs j d)) (key (get_or xs i d)))
+      where
+        before : key (get_or xs j d) < key (get_or xs i d) → order (get_or xs i d) (get_or xs i d) ≡ Less
+        before below =
+            let back = keyed (get_or xs j d) (get_or xs i d) below in
+            ⊎_elim
+            (λ less. laws.trans (get_or xs i d) (get_or xs j d) (get_or xs i d) (rise_at xs i j d h less lt) back)
+            (λ more. let e : j ≡ i = omega arith in subst (λ (k : ℕ). order (get_or xs k d) (get_or xs i d) ≡ Less) e back)
+            (cases_lt i j)
+
+    -- those whose keys are below that of the last of a full run enter it
+    pub keys_enter : (k : ℕ) (xs ys : List E) (end last : ℕ) → T (rising order xs) → T (rising order ys) → length xs ≡ k → 0 < k → end ≤ length ys
+        → last ≡ get_or (map key xs) (length (map key xs) - 1) last
+        → AllWithin (λ n. nat_cmp n last ≡ Greater) (map key ys) end (length (map key ys))
+        → union_of order k xs (take end ys) ≡ union_of order k xs ys
+    keys_enter k [] ys end last hx hy full some le is above = absurd (omega arith)
+    keys_enter k (x ∷ xs) ys end last hx hy full some le is above =
+        let all = x ∷ xs in
+        let z = get_or all (length all - 1) x in
+        let n : length (map key all) ≡ length all = length-map all key in
+        let top : last ≡ key z = is ∙ ap (λ (m : ℕ). get_or (map key all) (m - 1) last) n ∙ get_or-map key all (length all - 1) x last (omega arith) in
+        front_enters k all ys end x hx hy full some le (λ i from inside.
+        let read : get_or (map key ys) i last ≡ key (get_or ys i x) = get_or-map key ys i x last inside in
+        let e : nat_cmp (key (get_or ys i x)) last ≡ Greater = ap (λ (m : ℕ). nat_cmp m last) (sym read) ∙ above i last from (omega (arith, length-map ys key)) in
+        let more : last < key (get_or ys i x) = grind (arith, nat_tests) in
+        inr (keyed z (get_or ys i x) (omega arith)))
+
+    -- and can be searched for
+    pub keys_answers : (xs : List E) (n : ℕ) → T (rising order xs) → IsNonDecreasingBy (λ m. ordering_index (nat_cmp m n)) (map key xs)
+    keys_answers [] n h i j d le lt = absurd (omega arith)
+    keys_answers (x ∷ xs) n h i j d le lt =
+        let ys = x ∷ xs in
+        let inside : j < length ys = omega (arith, length-map ys key) in
+        let a : get_or (map key ys) i d ≡ key (get_or ys i x) = get_or-map key ys i x d (omega arith) in
+        let b : get_or (map key ys) j d ≡ key (get_or ys j x) = get_or-map key ys j x d inside in
+        let up : key (get_or ys i x) ≤ key (get_or ys j x) = keys_rise ys i j x h le inside in
+        let more : get_or (map key ys) i d ≤ get_or (map key ys) j d = omega arith in
+        index_up (get_or (map key ys) i d) (get_or (map key ys) j d) n more

@@ -1,4 +1,4 @@
-ghost use Rattle.std.specs.Prelude.{ℕ, Bool, T, ◌==◌, ◌≡◌, ◌<◌};
+ghost use Rattle.std.specs.Prelude.{ℕ, Bool, T, ◌==◌, ◌≡◌, ◌<◌, ◌≤◌, map, length};
 ghost use Rattle.std.specs.declared.cmp.Ordering.TheVariants.{Less};
 ghost use Rattle.runs.specs.Order.{Lawful};
 ghost use Rattle.std.proofs.Common.{rules};
@@ -20,6 +20,17 @@ pub trait Element: Ord + Copy {
     /// The number by which elements are ordered first: an element with a lesser key is less.
     fn key(self) -> u64
         ensures { result ≡ key self };
+
+    /// The keys of elements, for which room is lent; elements that are their own keys need none.
+    fn keys<'a>(items: &'a [Self], room: &'a mut [u64]) -> &'a [u64]
+        ensures { length items.now ≤ length room.old → result.now ≡ map key items.now }
+    {
+        let count = items.len().min(room.len());
+        for (i, x) in items[0..count].iter().enumerate() {
+            room[i] = x.key();
+        }
+        &room[0..count]
+    }
 
     ghost keyed: { (x y : Self) → key x < key y → Self.cmp x y ≡ Less };
 
@@ -64,6 +75,10 @@ impl Element for u64 {
 
     fn key(self) -> u64 {
         self
+    }
+
+    fn keys<'a>(items: &'a [u64], _room: &'a mut [u64]) -> &'a [u64] {
+        items
     }
 }
 

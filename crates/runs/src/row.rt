@@ -1,10 +1,11 @@
-ghost use Rattle.std.specs.Prelude.{◌≡◌, T, [], ◌∷◌};
+ghost use Rattle.std.specs.Prelude.{◌≡◌, ◌≤◌, T, [], ◌∷◌, length};
 ghost use Rattle.runs.specs.Runs.{as_run, keeps, counts, form_of};
 ghost use Rattle.runs.specs.Union.{joined_runs};
 
 use crate::element::{Element, Fresh};
+use crate::keyed::Keyed;
 use crate::place::{place_for, put_at};
-use crate::run::is_run_row;
+use crate::run::{all_blank, is_run_row};
 use crate::union::{entering, holds_all, union};
 
 /// A plain row of places. Nothing is known of it: a row that is no run stands for the empty run.
@@ -26,6 +27,22 @@ impl<E: Element, const N: usize> Row<E, N> {
         }
         let places = &self.places[..];
         &places[0..self.count]
+    }
+
+    // The same beside their keys, for which room is lent.
+    fn keyed<'a>(&'a self, room: &'a mut [u64]) -> Keyed<'a, E>
+        requires { N ≤ length room.old }
+        ensures { result.items.now ≡ (form_of E.Ord.cmp E.Element.blank self.now).items }
+    {
+        let places = &self.places[..];
+        let Some((front, rest)) = places.split_at_checked(self.count) else {
+            return Keyed::none();
+        };
+        let run = Keyed::of(front, room);
+        if run.rises() && all_blank(rest) {
+            return run;
+        }
+        Keyed::none()
     }
 }
 
@@ -73,17 +90,20 @@ impl<E: Fresh, const N: usize> Row<E, N> {
     }
 
     /// Joins the run that another row stands for to that of this one, as their N-union: the N least elements found in either, or
-    /// all where there are fewer. The row stays as it is where that changes nothing.
-    pub fn join(&mut self, other: &Row<E, N>)
+    /// all where there are fewer. The row stays as it is where that changes nothing. The last two are room for the keys of both.
+    pub fn join(&mut self, other: &Row<E, N>, room: [u64; N], other_room: [u64; N])
         ensures { form_of E.Ord.cmp E.Element.blank self.new ≡ joined_runs E.Ord.cmp N (form_of E.Ord.cmp E.Element.blank self.old) (form_of E.Ord.cmp E.Element.blank other.now) }
     {
-        let run = self.items();
-        let others = entering(run, N, other.items());
-        if holds_all(run, others) {
+        let mut room = room;
+        let mut other_room = other_room;
+        let run = self.keyed(&mut room);
+        let all = other.keyed(&mut other_room);
+        let others = all.first(entering(&run, N, &all));
+        if holds_all(&run, &others) {
             return;
         }
         let mut places = [E::default(); N];
-        self.count = union(run, others, &mut places);
+        self.count = union(&run, &others, &mut places);
         self.places = places;
     }
 }

@@ -38,7 +38,7 @@ impl Synopsis for Sample {
     }
 
     fn fuse(&mut self, other: &Self) {
-        self.row.join(&other.row);
+        self.row.join(&other.row, [0; 32], [0; 32]);
     }
 
     fn add(&mut self, reading: Reading) {

@@ -7,8 +7,8 @@ use Rattle.runs.proofs.union.advance.Goals as goal
 pub returns-in-Some-None : goal.returns-in-Some-None
 returns-in-Some-None g c =
     let order = g.E.Ord.cmp in
-    let a = c.args.a.now in
-    let b = c.args.b.now in
+    let a = c.args.a.now.items.now in
+    let b = c.args.b.now.items.now in
     let x = c.in-Some-None.x.now in
     let rest = drop (c.args.left + 1) a in
     let none : drop c.args.right b ≡ [] = drop_all c.args.right b c.in-Some-None.ensures'.lookup.3 in
