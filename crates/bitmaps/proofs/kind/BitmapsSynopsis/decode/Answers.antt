@@ -9,6 +9,7 @@ pub returns : goal.returns
 returns c =
     let p = c.in_ok-decode_records.ensures in
     let maps = c.decode_records.new.out in
+    let wide : length c.args.self.now.maps ≡ 64 = search rules in
     let long : length maps ≡ 64 = search rules in
     let all = take_all _ maps (omega (arith, p.enough, long)) in
-    (ap formed p.reads ∙ ap (λ (l : List ℕ). Ok (as_maps l)) all, ap (frame_of 1 map_layout) (kept maps long ∙ sym all) ∙ p.back)
+    (ap formed (rw wide at p.reads) ∙ ap (λ (l : List ℕ). Ok (as_maps l)) all, ap (frame_of 1 map_layout) (kept maps long ∙ sym all) ∙ p.back)
