@@ -36,8 +36,8 @@ def added(kind, before, readings):
 
 
 def filled(kind, counts, sorted_counts=()):
-    """From nothing on: the same readings in drawn order, as many as each count says, and in rising and in falling order;
-    and every reading several times."""
+    """From nothing on: the same readings in drawn order, as many as each count says, and in rising and in falling
+    order; and every reading several times."""
     drawn = readings_like(f"{kind.number} filling up", max(counts))
     rising = sample_order(drawn)
     for order, many in ((drawn, counts), (rising, sorted_counts), (rising[::-1], sorted_counts)):
@@ -81,7 +81,8 @@ def in_full_rows(kind, most):
 
 
 def gone_wrong(kind, most):
-    """A run, and rows made from it that are no runs, as counts and readings. Its end is above an unused place's zeros."""
+    """A run, and rows made from it that are no runs, as counts and readings. Its end is above the zeros of an unused
+    place."""
     run = [*run_of(kind, "wrong", most - 2), *with_hashes([TOP - 8, TOP - 6])]
     half = most // 2
     return run, [
@@ -93,7 +94,7 @@ def gone_wrong(kind, most):
 
 
 def counted_into_rows(kind, most):
-    """Into rows that are no runs: a reading beyond all that stands there, one below, one that stands there, and two."""
+    """Into rows that are no runs: a reading beyond all that stands there, one below, and two that stand there."""
     run, wrong = gone_wrong(kind, most)
     last, first = reading_of(hash_of(run[-1].item) + 1), reading_of(hash_of(run[0].item) - 1)
     for count, readings in wrong:
