@@ -115,7 +115,8 @@ def blank_places(kind, most):
 
 
 def ties(kind, most):
-    """Readings of the item that is last in a full row, with tenants and amounts around those of the last record."""
+    """Records of equal hashes: readings of the item that is last in a full row, with tenants and amounts around those
+    of the last record; and joins of rows that have records of one item."""
     front = run_of(kind, "ties", most - 1)
     item = item_with(TOP - 5)
     for tenant, amount in ((256, 2**32), (0, 0), (2**32 - 1, TOP)):
@@ -127,6 +128,16 @@ def ties(kind, most):
     for more in ((1, TOP), (3, 0), (5, most // 4), (5, most // 4 + 1)):
         yield added(kind, one_item, [Reading(more[0], item, more[1])])
     yield added(kind, [], one_item[::-1] + [Reading(0, item, TOP), Reading(9, item, 0)])
+    # joins of such rows
+    between = [reading._replace(amount=2**40 + reading.amount) for reading in one_item]
+    for other in ([Reading(5, item, most // 4 - off) for off in (1, 0, -1)], [Reading(1, item, TOP)], one_item[5:9],
+                  between, sample_order(one_item[::2] + between[::2])):
+        yield joined(kind, (most, one_item), (len(other), other))
+    two = [Reading(tenant, item, amount) for tenant in (1, 2) for amount in (1, 2, 3)]
+    for one, other in ((two[:3], two[3:]), (two[::2], two[1::2]), (two[:4], two[2:]), (two, two[1:5])):
+        more = sample_order([*other, reading_of(7), reading_of(TOP - 4), reading_of(TOP)])
+        yield joined(kind, (len(one), one), (len(other), other))
+        yield joined(kind, (len(more), more), (len(one), one))
 
 
 def joined(kind, one, other):

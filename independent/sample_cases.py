@@ -132,5 +132,5 @@ SORTS = {
     "encodes into rooms": lambda: encode_cases(SAMPLE, "s", (0, 1, 2, 31, 32)),
     "plain rows": plain_row_cases,
     **row_sorts(SAMPLE),
-    "records next to the last": lambda: ties(SAMPLE, MOST),
+    "records of equal hashes": lambda: ties(SAMPLE, MOST),
 }
