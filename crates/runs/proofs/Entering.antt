@@ -1,5 +1,5 @@
 -- What may enter a run, and where: what a run keeps of a union with others.
-use Rattle.std.proofs.Common.{◌≡◌, ℕ, zero, suc, ◌+◌, ◌-◌, ◌<◌, ◌≤◌, Bool, true, false, T, leb, ◌⊎◌, List, [], ◌∷◌, ◌++◌, length, map, take, drop, get_or, Ordering, Less, Equal, Greater, sym, refl, ap, ◌∙◌, subst, inl, inr, ⊎_elim, arith}
+use Rattle.std.proofs.Common.{◌≡◌, ℕ, zero, suc, ◌-◌, ◌<◌, ◌≤◌, Bool, true, false, T, ◌⊎◌, List, [], ◌∷◌, ◌++◌, length, map, take, drop, get_or, Ordering, Less, Equal, Greater, sym, refl, ap, ◌∙◌, subst, inl, inr, ⊎_elim, arith}
 use mathlib.Core.Bool.{true≢false}
 use Rattle.std.proofs.lemmas.Bool.{cases_lt}
 use Rattle.std.proofs.lemmas.Bool.Decides.{nat_tests}
@@ -9,8 +9,7 @@ use Rattle.std.specs.List.Sorted.{IsNonDecreasingBy}
 use Rattle.std.specs.Ordering.{nat_cmp, ordering_index, is_lt, is_ge}
 use Rattle.runs.specs.Order.{Lawful}
 use Rattle.runs.specs.Runs.{rising, rising_from}
-use Rattle.runs.specs.Union.{Among, Least, Either, pick, against, merge, union_of, Joins}
-use Rattle.runs.proofs.Orders.{lawful_self}
+use Rattle.runs.specs.Union.{Among, Least, Either, pick, against, merge, union_of}
 use Rattle.runs.proofs.Rising.{both, is_less, holds_from, all_among, all_from_among, above, rest_rises, never_less}
 use Rattle.runs.proofs.Unions.{own, like, widen, joins, union_means, take_rises, from_take}
 

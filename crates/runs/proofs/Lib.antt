@@ -2,6 +2,7 @@ pub mod Rising
 pub mod Unions
 pub mod Entering
 pub mod Steps
+pub mod Noting
 pub mod Forms
 pub mod Rows
 pub mod Places

@@ -1,8 +1,8 @@
 -- An element is put in its place: what the places hold then, and what the row stands for.
-use Rattle.std.proofs.Common.{◌≡◌, ℕ, zero, suc, ◌+◌, ◌-◌, ◌<◌, ◌≤◌, min, Bool, true, false, cond, ◌&&◌, T, leb, List, [], ◌∷◌, ◌++◌, length, take, drop, set, Ordering, sym, refl, ap, ◌∙◌, subst, ⊎_elim, arith}
+use Rattle.std.proofs.Common.{◌≡◌, ℕ, zero, suc, ◌+◌, ◌-◌, ◌<◌, ◌≤◌, min, Bool, true, false, cond, T, leb, List, [], ◌∷◌, ◌++◌, length, take, drop, set, Ordering, sym, refl, ap, ◌∙◌, subst, ⊎_elim, arith}
 use Rattle.std.specs.List.{list_all, copy_within}
 use Rattle.std.proofs.Math.Seq.{take-append-add, take-set-lt}
-use Rattle.std.proofs.lemmas.List.{length-take-le, length-take, length-drop, take-take, take_all, drop-take, take-append-drop, take-append-le, take-set, drop-set, drop_at, drop-drop}
+use Rattle.std.proofs.lemmas.List.{length-take-le, length-take, length-drop, take-take, take_all, drop-take, take-append-drop, take-append-le, take-set, drop-set, drop_at}
 use Rattle.std.proofs.lemmas.List.Edits.{take-paste, length-paste}
 use Rattle.std.proofs.lemmas.Bool.{leb-true, cases_lt}
 use Rattle.runs.specs.Order.{Lawful}

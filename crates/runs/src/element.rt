@@ -1,4 +1,4 @@
-ghost use Rattle.std.specs.Prelude.{ℕ, Bool, T, ◌==◌, ◌≡◌, ◌<◌, ◌≤◌, map, length};
+ghost use Rattle.std.specs.Prelude.{ℕ, Bool, cond, T, ◌==◌, ◌≡◌, ◌<◌, map};
 ghost use Rattle.std.specs.declared.cmp.Ordering.TheVariants.{Less};
 ghost use Rattle.runs.specs.Order.{Lawful};
 ghost use Rattle.std.proofs.Common.{rules};
@@ -21,15 +21,18 @@ pub trait Element: Ord + Copy {
     fn key(self) -> u64
         ensures { result ≡ key self };
 
-    /// The keys of elements, for which room is lent; elements that are their own keys need none.
-    fn keys<'a>(items: &'a [Self], room: &'a mut [u64]) -> &'a [u64]
-        ensures { length items.now ≤ length room.old → result.now ≡ map key items.now }
+    /// One of two elements: the other where the choice is for it.
+    fn chosen(self, other: Self, for_other: bool) -> Self
+        ensures { result ≡ cond for_other other self }
     {
-        let count = items.len().min(room.len());
-        for (i, x) in items[0..count].iter().enumerate() {
-            room[i] = x.key();
-        }
-        &room[0..count]
+        if for_other { other } else { self }
+    }
+
+    /// The keys of elements, which were noted in the order of these; elements that are their own keys are not read twice.
+    fn keys<'a>(_items: &'a [Self], noted: &'a [u64]) -> &'a [u64]
+        ensures { noted.now ≡ map key _items.now → result.now ≡ map key _items.now }
+    {
+        noted
     }
 
     ghost keyed: { (x y : Self) → key x < key y → Self.cmp x y ≡ Less };
@@ -77,7 +80,7 @@ impl Element for u64 {
         self
     }
 
-    fn keys<'a>(items: &'a [u64], _room: &'a mut [u64]) -> &'a [u64] {
+    fn keys<'a>(items: &'a [u64], _noted: &'a [u64]) -> &'a [u64] {
         items
     }
 }

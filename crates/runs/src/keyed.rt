@@ -1,7 +1,8 @@
-ghost use Rattle.std.specs.Prelude.{◌≡◌, ◌≤◌, [], map, length, take};
+ghost use Rattle.std.specs.Prelude.{◌≡◌, ◌≤◌, true, false, [], map, length, take, MatchOption};
 ghost use Rattle.runs.specs.Runs.{rising};
 
-use crate::element::{Element, order_by};
+use crate::element::Element;
+use crate::run::fall_noting;
 
 /// Elements beside their keys, each of which was worked out once.
 #[derive(Drop)]
@@ -24,15 +25,16 @@ impl<'a, E: Element> Keyed<'a, E> {
         }
     }
 
-    /// The elements with their keys, for which room is lent: none where that is too short.
-    pub fn of(items: &'a [E], room: &'a mut [u64]) -> Keyed<'a, E>
-        ensures { length items.now ≤ length room.old → result.items.now ≡ items.now }
+    /// The run that some elements are, with their keys, for which room is lent; none where they are no run, or the room is too
+    /// short.
+    pub fn of(items: &'a [E], room: &'a mut [u64]) -> Option<Keyed<'a, E>>
+        ensures { MatchOption result (length items.now ≤ length room.old → rising E.Ord.cmp items.now ≡ false) (λ run. (rising E.Ord.cmp items.now ≡ true) × (run.items.now ≡ items.now)) }
     {
-        if room.len() < items.len() {
-            return Keyed::none();
+        if room.len() < items.len() || fall_noting(items, room).is_some() {
+            return None;
         }
-        let keys = E::keys(items, room);
-        Keyed { items, keys }
+        let keys = E::keys(items, &room[0..items.len()]);
+        Some(Keyed { items, keys })
     }
 
     /// The first elements, so many or all.
@@ -44,19 +46,5 @@ impl<'a, E: Element> Keyed<'a, E> {
             items: &self.items[0..end],
             keys: &self.keys[0..end],
         }
-    }
-
-    /// Whether the elements are a run.
-    pub fn rises(&self) -> bool
-        ensures { result ≡ rising E.Ord.cmp self.now.items.now }
-    {
-        let items = self.items;
-        let keys = self.keys;
-        for i in 1..items.len() {
-            if order_by(items[i - 1], keys[i - 1], items[i], keys[i]).is_ge() {
-                return false;
-            }
-        }
-        true
     }
 }

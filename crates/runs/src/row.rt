@@ -38,8 +38,10 @@ impl<E: Element, const N: usize> Row<E, N> {
         let Some((front, rest)) = places.split_at_checked(self.count) else {
             return Keyed::none();
         };
-        let run = Keyed::of(front, room);
-        if run.rises() && all_blank(rest) {
+        let Some(run) = Keyed::of(front, room) else {
+            return Keyed::none();
+        };
+        if all_blank(rest) {
             return run;
         }
         Keyed::none()

@@ -1,25 +1,43 @@
-ghost use Rattle.std.specs.Prelude.{◌≡◌};
+ghost use Rattle.std.specs.Prelude.{◌≡◌, ◌≤◌, None, map, length, take, slice_set};
 ghost use Rattle.runs.specs.Runs.{first_fall, is_run_row};
 ghost use Rattle.std.specs.List.{list_all};
 
 use crate::element::{Element, order_by};
 
+// Notes a key at a place, if there is such a place.
+fn note(room: &mut [u64], place: usize, key: u64)
+    ensures { room.new ≡ slice_set room.old place key }
+{
+    if place < room.len() {
+        room[place] = key;
+    }
+}
+
+// As `fall`; besides, the keys of a run are noted in room lent for them, as far as it goes.
+pub(crate) fn fall_noting<E: Element>(items: &[E], room: &mut [u64]) -> Option<usize>
+    ensures fall { result ≡ first_fall E.Ord.cmp items.now }
+    ensures keys { result ≡ None → length items.now ≤ length room.old → take (length items.now) room.new ≡ map E.Element.key items.now }
+{
+    let (mut last, rest) = items.split_first()?;
+    let mut key = last.key();
+    note(room, 0, key);
+    for (i, x) in rest.iter().enumerate() {
+        let next = x.key();
+        if next <= key && order_by(*last, key, *x, next).is_ge() {
+            return Some(i + 1);
+        }
+        note(room, i + 1, next);
+        last = x;
+        key = next;
+    }
+    None
+}
+
 /// The place of the first element that is not greater than its predecessor; none in a run.
 pub fn fall<E: Element>(items: &[E]) -> Option<usize>
     ensures { result ≡ first_fall E.Ord.cmp items.now }
 {
-    let (first, rest) = items.split_first()?;
-    let mut last = *first;
-    let mut key = last.key();
-    for (i, x) in rest.iter().enumerate() {
-        let next = x.key();
-        if order_by(last, key, *x, next).is_ge() {
-            return Some(i + 1);
-        }
-        last = *x;
-        key = next;
-    }
-    None
+    fall_noting(items, &mut [])
 }
 
 /// Whether every place is as an unused one.

@@ -7,38 +7,48 @@ use crate::keyed::Keyed;
 
 // The first element of a union, and the places of what is then left of either run.
 #[derive(Clone, Copy)]
-struct Step<'a, E> {
-    item: &'a E,
+struct Step<E> {
+    item: E,
     left: usize,
     right: usize,
 }
 
 // One step of the union of what two runs have from these places on: the first elements are compared; where one run is used up,
 // the other gives its first.
-fn advance<'a, E: Element>(
-    a: &Keyed<'a, E>,
-    b: &Keyed<'a, E>,
+fn advance<E: Element>(
+    a: &Keyed<'_, E>,
+    b: &Keyed<'_, E>,
     left: usize,
     right: usize,
-) -> Option<Step<'a, E>>
-    ensures { MatchOption result (merge E.Ord.cmp (drop left a.now.items.now) (drop right b.now.items.now) ≡ []) (λ s. merge E.Ord.cmp (drop left a.now.items.now) (drop right b.now.items.now) ≡ s.item.now ∷ merge E.Ord.cmp (drop s.left a.now.items.now) (drop s.right b.now.items.now)) }
+) -> Option<Step<E>>
+    ensures { MatchOption result (merge E.Ord.cmp (drop left a.now.items.now) (drop right b.now.items.now) ≡ []) (λ s. merge E.Ord.cmp (drop left a.now.items.now) (drop right b.now.items.now) ≡ s.item ∷ merge E.Ord.cmp (drop s.left a.now.items.now) (drop s.right b.now.items.now)) }
 {
     match (a.items.get(left), b.items.get(right)) {
         (None, None) => None,
         (Some(x), None) => Some(Step {
-            item: x,
+            item: *x,
             left: left + 1,
             right,
         }),
         (None, Some(y)) => Some(Step {
-            item: y,
+            item: *y,
             left,
             right: right + 1,
         }),
         (Some(x), Some(y)) => {
-            let order = order_by(*x, a.keys[left], *y, b.keys[right]);
+            let (x_key, y_key) = (a.keys[left], b.keys[right]);
+            // No branch on the order, which cannot be foretold.
+            if x_key != y_key {
+                let turned = y_key < x_key;
+                return Some(Step {
+                    item: x.chosen(*y, turned),
+                    left: left + usize::from(!turned),
+                    right: right + usize::from(turned),
+                });
+            }
+            let order = order_by(*x, x_key, *y, y_key);
             Some(Step {
-                item: if order.is_gt() { y } else { x },
+                item: if order.is_gt() { *y } else { *x },
                 left: left + usize::from(order.is_le()),
                 right: right + usize::from(order.is_ge()),
             })
@@ -48,7 +58,7 @@ fn advance<'a, E: Element>(
 
 /// Writes the k-union of the runs `a` and `b` at the front of `out`, which has k places, and answers how many elements it has;
 /// the other places stay. The k-union has the k least elements found in either, or all where there are fewer.
-pub fn union<'a, E: Element>(a: &Keyed<'a, E>, b: &Keyed<'a, E>, out: &mut [E]) -> usize
+pub fn union<E: Element>(a: &Keyed<'_, E>, b: &Keyed<'_, E>, out: &mut [E]) -> usize
     ensures count { result ≡ length (union_of E.Ord.cmp (length out.old) a.now.items.now b.now.items.now) }
     ensures value { take result out.new ≡ union_of E.Ord.cmp (length out.old) a.now.items.now b.now.items.now }
     ensures same { drop result out.new ≡ drop result out.old }
@@ -61,7 +71,7 @@ pub fn union<'a, E: Element>(a: &Keyed<'a, E>, b: &Keyed<'a, E>, out: &mut [E]) 
         let Some(next) = advance(a, b, left, right) else {
             return n;
         };
-        *place = *next.item;
+        *place = next.item;
         left = next.left;
         right = next.right;
     }
@@ -79,12 +89,12 @@ pub(crate) fn entering<E: Element>(a: &Keyed<'_, E>, most: usize, b: &Keyed<'_, 
     if a.keys.len() < most {
         return b.keys.len();
     }
-    let Some(last) = a.keys.last() else {
-        return b.keys.len();
-    };
-    match b.keys.binary_search(last) {
-        Err(end) => end,
-        Ok(_) => b.keys.len(),
+    match (a.keys.last(), b.keys.last()) {
+        (Some(last), Some(other)) if last < other => match b.keys.binary_search(last) {
+            Err(end) => end,
+            Ok(_) => b.keys.len(),
+        },
+        _ => b.keys.len(),
     }
 }
 

@@ -110,6 +110,15 @@ impl Element for SampleRecord {
     fn key(self) -> u64 {
         self.hash()
     }
+
+    // Part by part, which takes no branch.
+    fn chosen(self, other: SampleRecord, for_other: bool) -> SampleRecord {
+        SampleRecord {
+            item: self.item.chosen(other.item, for_other),
+            tenant: self.tenant.chosen(other.tenant, for_other),
+            amount: self.amount.chosen(other.amount, for_other),
+        }
+    }
 }
 
 impl Fresh for SampleRecord {

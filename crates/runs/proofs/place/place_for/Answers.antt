@@ -1,5 +1,4 @@
-use Rattle.std.proofs.Common.{◌≡◌, ℕ, zero, ◌-◌, ◌<◌, ◌≤◌, length, get_or, Less, sym, ap, ◌∙◌, subst, inl, inr, ⊎_elim, arith, rules}
-use Rattle.std.specs.List.{AllByRecursion}
+use Rattle.std.proofs.Common.{◌≡◌, ◌-◌, ◌<◌, length, get_or, Less, sym, ◌∙◌, subst, ⊎_elim, arith, rules}
 use Rattle.runs.specs.Union.{Among}
 use Rattle.runs.proofs.Entering.{among_at, answers_rise, below_last, all_below, inserted, there_stays, full_below}
 use Rattle.runs.proofs.place.place_for.Goals as goal

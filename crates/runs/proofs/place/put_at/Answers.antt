@@ -1,4 +1,4 @@
-use Rattle.std.proofs.Common.{◌≡◌, ◌+◌, ◌∙◌, set, take, ap}
+use Rattle.std.proofs.Common.{◌+◌, ◌∙◌, set, take, ap}
 use Rattle.runs.proofs.Places.{put_in_front}
 use Rattle.runs.proofs.place.put_at.Goals as goal
 

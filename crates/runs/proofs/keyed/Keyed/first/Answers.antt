@@ -1,4 +1,4 @@
-use Rattle.std.proofs.Common.{◌≡◌, ◌-◌, take, map, sym, ap, ◌∙◌}
+use Rattle.std.proofs.Common.{◌-◌, take, ap, ◌∙◌}
 use Rattle.std.proofs.lemmas.List.{take-map}
 use Rattle.runs.proofs.keyed.Keyed.first.Goals as goal
 

@@ -1,6 +1,5 @@
 use Rattle.std.proofs.Common.{◌≡◌, ◌<◌, ◌∙◌, [], ◌∷◌, length, sym, ap, arith, rules}
 use Rattle.runs.specs.Runs.{form_of, as_run}
-use Rattle.runs.specs.Union.{joined_runs}
 use Rattle.runs.proofs.Forms.{run_few}
 use Rattle.runs.proofs.Places.{stays_joined, one_item, joined_none, put_form}
 use Rattle.runs.proofs.row.Row.add.Goals as goal

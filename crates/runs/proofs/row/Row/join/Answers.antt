@@ -1,4 +1,4 @@
-use Rattle.std.proofs.Common.{◌≡◌, ℕ, ◌≤◌, ◌∙◌, T, List, length, take, sym, ap, subst, arith}
+use Rattle.std.proofs.Common.{◌≡◌, ℕ, ◌≤◌, ◌∙◌, T, length, take, sym, ap, subst, arith}
 use Rattle.std.proofs.lemmas.List.{length-replicate, length-take}
 use Rattle.runs.specs.Runs.{rising, form_of}
 use Rattle.runs.specs.Union.{Among, union_of}
