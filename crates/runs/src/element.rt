@@ -21,17 +21,18 @@ pub trait Element: Ord + Copy {
     fn key(self) -> u64
         ensures { result ≡ key self };
 
-    /// One of two elements: the other where the choice is for it.
+    /// One of two elements: this one, or the other where `for_other` says so.
     fn chosen(self, other: Self, for_other: bool) -> Self
         ensures { result ≡ cond for_other other self }
     {
         if for_other { other } else { self }
     }
 
-    /// The keys of elements, which were noted in the order of these; elements that are their own keys are not read twice.
-    fn keys<'a>(_items: &'a [Self], noted: &'a [u64]) -> &'a [u64]
-        ensures { noted.now ≡ map key _items.now → result.now ≡ map key _items.now }
+    /// The keys of elements, where these were noted one by one: what was noted, or the elements if they are their own keys.
+    fn keys<'a>(items: &'a [Self], noted: &'a [u64]) -> &'a [u64]
+        ensures { noted.now ≡ map key items.now → result.now ≡ map key items.now }
     {
+        let _ = items;
         noted
     }
 
@@ -80,7 +81,8 @@ impl Element for u64 {
         self
     }
 
-    fn keys<'a>(items: &'a [u64], _noted: &'a [u64]) -> &'a [u64] {
+    fn keys<'a>(items: &'a [u64], noted: &'a [u64]) -> &'a [u64] {
+        let _ = noted;
         items
     }
 }

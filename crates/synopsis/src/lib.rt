@@ -1,4 +1,4 @@
-// What a synopsis kind is: its meaning, its laws, its six calls, and their refusals.
+// What a synopsis kind is: its meaning, its laws, its calls, and their refusals.
 #![tactic(auto)]
 
 pub mod fault;
