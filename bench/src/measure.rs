@@ -1,0 +1,213 @@
+//! How long each operation takes in each implementation, sample by sample in turn.
+use crate::told::{self, Frames, MODES, Mode};
+use crate::{IMPLEMENTATIONS, Implementation, KINDS, Work, digest, kind_name};
+use std::hint::black_box;
+use std::time::Instant;
+
+/// An operation: what one sample of it is, how many times the sample does it, and what the sample answers.
+struct Operation {
+    name: String,
+    count: u64,
+    sample: Box<dyn Fn(&Implementation) -> u64>,
+}
+
+// Items are counted anew so often that a sample has some ten thousand of them.
+fn counting(kind: u32, mode: Mode, count: u64) -> Operation {
+    let repeats = (20_000 / count).max(1);
+    let lists: Vec<Vec<u64>> = (0..repeats).map(|i| told::items(mode, 77 + (i << 32), count)).collect();
+    Operation {
+        name: format!("ADD {} ({}, {count})", kind_name(kind), mode.name()),
+        count: count * repeats,
+        sample: Box::new(move |one| {
+            let mut out = [0; 2048];
+            lists.iter().fold(0, |sum, items| {
+                let length = (one.count)(kind, black_box(items), &mut out);
+                sum ^ digest(&out[..length])
+            })
+        }),
+    }
+}
+
+const READINGS: u64 = 400;
+
+fn frames(kind: u32, readings: u64) -> Frames {
+    told::frames(kind, readings, 1000, false)
+}
+
+fn decoding(kind: u32, readings: u64) -> Operation {
+    let Frames { bytes, size } = frames(kind, readings);
+    Operation {
+        name: format!("DECODE {} ({size} bytes)", kind_name(kind)),
+        count: 64 * 200,
+        sample: Box::new(move |one| {
+            let mut out = [0; 2048];
+            let refused: usize = (0..200).map(|_| (one.decode)(kind, black_box(&bytes), size, 64, &mut out)).sum();
+            refused as u64 ^ digest(&out)
+        }),
+    }
+}
+
+fn working(what: &str, each: u64, kind: u32, readings: u64, call: fn(&Implementation) -> Work) -> Operation {
+    let Frames { bytes, size } = frames(kind, readings);
+    let rounds = 20_000 / each;
+    Operation {
+        name: format!("{what} {} ({size} bytes)", kind_name(kind)),
+        count: rounds * each,
+        sample: Box::new(move |one| {
+            let mut out = [0; 2048];
+            call(one)(kind, black_box(&bytes), size, rounds, &mut out);
+            digest(&out)
+        }),
+    }
+}
+
+fn turning(kind: u32) -> Operation {
+    let Frames { bytes, size } = frames(kind, 3);
+    let words = told::words(42, 20_000);
+    Operation {
+        name: format!("turns on 7 nodes, {}", kind_name(kind)),
+        count: words.len() as u64,
+        sample: Box::new(move |one| {
+            let (mut memory, mut room) = (vec![0; 65_536], vec![0; 2048]);
+            let sum = (one.turns)(kind, black_box(&words), &bytes, size, &mut memory, &mut room);
+            sum ^ digest(&memory[..7 * 2048])
+        }),
+    }
+}
+
+fn replaying() -> Operation {
+    let script = told::longest_script();
+    let lines = script.iter().filter(|byte| **byte == b'\n').count();
+    Operation {
+        name: format!("a line of the longest input ({lines} lines)"),
+        count: lines as u64,
+        sample: Box::new(move |one| {
+            let mut out = vec![0; 1 << 20];
+            (one.replay)(black_box(&script), &mut out) as u64
+        }),
+    }
+}
+
+fn operations() -> Vec<Operation> {
+    let mut all = Vec::new();
+    for kind in KINDS {
+        for mode in MODES {
+            all.extend([64, 1000, 20_000].map(|count| counting(kind, mode, count)));
+        }
+    }
+    for readings in [READINGS, 3] {
+        all.extend(KINDS.iter().filter(|kind| readings > 3 || **kind != 1).map(|kind| decoding(*kind, readings)));
+    }
+    for readings in [READINGS, 3] {
+        let some = KINDS.iter().filter(|kind| readings > 3 || **kind != 1);
+        all.extend(some.map(|kind| working("ENCODE", 64, *kind, readings, |one| one.encode)));
+    }
+    all.extend(KINDS.map(|kind| working("copy and FUSE, two full values,", 1024, kind, READINGS, |one| one.fuse)));
+    all.extend(KINDS.map(|kind| working("FUSE into one that has it all,", 64, kind, READINGS, |one| one.gather)));
+    all.extend(KINDS.map(turning));
+    all.push(replaying());
+    all
+}
+
+fn median(mut times: Vec<f64>) -> f64 {
+    times.sort_by(f64::total_cmp);
+    times[times.len() / 2]
+}
+
+// Nanoseconds of one operation in one sample.
+fn timed(operation: &Operation, one: &Implementation) -> f64 {
+    let start = Instant::now();
+    black_box((operation.sample)(one));
+    start.elapsed().as_nanos() as f64 / operation.count as f64
+}
+
+fn row(operation: &Operation, rounds: usize) {
+    let answers = IMPLEMENTATIONS.each_ref().map(|one| (operation.sample)(one));
+    let mut times: [Vec<f64>; 3] = Default::default();
+    for round in 0..rounds {
+        for turn in 0..3 {
+            let which = (round + turn) % 3;
+            times[which].push(timed(operation, &IMPLEMENTATIONS[which]));
+        }
+    }
+    let ratio = |other: usize| median(times[0].iter().zip(&times[other]).map(|(proved, hand)| proved / hand).collect());
+    let (to_plain, to_best) = (ratio(1), ratio(2));
+    let least = times.each_ref().map(|times| times.iter().copied().fold(f64::MAX, f64::min));
+    let [proved, plain, best] = times.map(median);
+    println!(
+        "| {} | {proved:.1} | {plain:.1} | {best:.1} | {to_plain:.2} | {to_best:.2} | {:.1} {:.1} {:.1} | {} |",
+        operation.name,
+        least[0],
+        least[1],
+        least[2],
+        if answers.iter().all(|answer| *answer == answers[0]) { "yes" } else { "NO" }
+    );
+}
+
+// The least time of one of so many, over some samples.
+fn floor(name: &str, count: u64, mut sample: impl FnMut(u64)) {
+    let least = (0..31)
+        .map(|_| {
+            let start = Instant::now();
+            sample(count);
+            start.elapsed().as_nanos() as f64 / count as f64
+        })
+        .fold(f64::MAX, f64::min);
+    println!("| {name} | {least:.1} |");
+}
+
+fn floors() {
+    println!("\nWhat no implementation can do without, the least time in ns:\n");
+    println!("| what | ns |\n|---|---|");
+    for size in [260, 516, 644, 1432] {
+        let source = vec![7u8; 64 * size];
+        let mut to = [0u8; 2048];
+        floor(&format!("a copy of {size} bytes"), 100_000, |count| {
+            for i in 0..count {
+                let at = (i % 64) as usize * size;
+                black_box(&mut to)[..size].copy_from_slice(black_box(&source[at..at + size]));
+            }
+        });
+    }
+    let rows: Vec<[u64; 64]> = (0..64).map(|i| std::array::from_fn(|j| (j as u64 + 1) * 1000 + i)).collect();
+    floor("a check that 64 numbers rise", 100_000, |count| {
+        for i in 0..count {
+            black_box(black_box(&rows[(i % 64) as usize]).windows(2).all(|pair| pair[0] < pair[1]));
+        }
+    });
+    let items = told::items(Mode::New, 5, 100_000);
+    floor("a hash", items.len() as u64, |_| {
+        black_box(crate::best::hashes(black_box(&items)));
+    });
+}
+
+pub fn list() {
+    for operation in operations() {
+        println!("{}", operation.name);
+    }
+}
+
+/// Prints a row for each operation whose name contains the words, and for all of them the floors.
+pub fn measure(rounds: usize, words: &str) {
+    println!("Medians in ns of one operation, and of the ratios within one round; {rounds} rounds.\n");
+    println!("| operation | proved | plain | best | proved/plain | proved/best | least of each | equal |");
+    println!("|---|---|---|---|---|---|---|---|");
+    for operation in operations().iter().filter(|operation| operation.name.contains(words)) {
+        row(operation, rounds);
+    }
+    if words.is_empty() {
+        floors();
+    }
+}
+
+/// Runs one sample of an operation so many times; none where there is no such operation or implementation.
+pub fn one(name: &str, implementation: &str, times: u64) -> Option<bool> {
+    let operations = operations();
+    let operation = operations.iter().find(|operation| operation.name.contains(name))?;
+    let one = IMPLEMENTATIONS.iter().find(|one| one.name == implementation)?;
+    for _ in 0..times {
+        black_box((operation.sample)(one));
+    }
+    println!("{}, {implementation}: {} operations", operation.name, times * operation.count);
+    Some(true)
+}
