@@ -63,7 +63,7 @@ fn digest(bytes: &[u8]) -> u64 {
 const USAGE: &str = "bench compare
     compares the answers of proved, plain and best; status 1 where any differ
 bench measure [ROUNDS [WORDS]]
-    prints the table, of the operations whose names contain the words; 21 rounds where nothing is said
+    prints the table, of the operations whose names contain the words; 41 rounds where nothing is said
 bench one NAME IMPLEMENTATION TIMES
     runs one sample of an operation so many times, for a profiler
 bench list
@@ -78,7 +78,7 @@ fn run(arguments: &[&str]) -> Option<bool> {
         }
         ["one", name, implementation, times] => measure::one(name, implementation, times.parse().ok()?),
         ["measure"] => {
-            measure::measure(21, "");
+            measure::measure(41, "");
             Some(true)
         }
         ["measure", rounds, words @ ..] => {

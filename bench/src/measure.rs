@@ -11,9 +11,11 @@ struct Operation {
     sample: Box<dyn Fn(&Implementation) -> u64>,
 }
 
-// Items are counted anew so often that a sample has some ten thousand of them.
+// A sample is short, so that most of them are not interrupted; a few items are counted anew to fill one.
+const SAMPLE: u64 = 2000;
+
 fn counting(kind: u32, mode: Mode, count: u64) -> Operation {
-    let repeats = (20_000 / count).max(1);
+    let repeats = (SAMPLE / count).max(1);
     let lists: Vec<Vec<u64>> = (0..repeats).map(|i| told::items(mode, 77 + (i << 32), count)).collect();
     Operation {
         name: format!("ADD {} ({}, {count})", kind_name(kind), mode.name()),
@@ -38,10 +40,10 @@ fn decoding(kind: u32, readings: u64) -> Operation {
     let Frames { bytes, size } = frames(kind, readings);
     Operation {
         name: format!("DECODE {} ({size} bytes)", kind_name(kind)),
-        count: 64 * 200,
+        count: SAMPLE / 64 * 64,
         sample: Box::new(move |one| {
             let mut out = [0; 2048];
-            let refused: usize = (0..200).map(|_| (one.decode)(kind, black_box(&bytes), size, 64, &mut out)).sum();
+            let refused: usize = (0..SAMPLE / 64).map(|_| (one.decode)(kind, black_box(&bytes), size, 64, &mut out)).sum();
             refused as u64 ^ digest(&out)
         }),
     }
@@ -49,7 +51,7 @@ fn decoding(kind: u32, readings: u64) -> Operation {
 
 fn working(what: &str, each: u64, kind: u32, readings: u64, call: fn(&Implementation) -> Work) -> Operation {
     let Frames { bytes, size } = frames(kind, readings);
-    let rounds = 20_000 / each;
+    let rounds = (SAMPLE / each).max(1);
     Operation {
         name: format!("{what} {} ({size} bytes)", kind_name(kind)),
         count: rounds * each,
@@ -63,7 +65,7 @@ fn working(what: &str, each: u64, kind: u32, readings: u64, call: fn(&Implementa
 
 fn turning(kind: u32) -> Operation {
     let Frames { bytes, size } = frames(kind, 3);
-    let words = told::words(42, 20_000);
+    let words = told::words(42, 5000);
     Operation {
         name: format!("turns on 7 nodes, {}", kind_name(kind)),
         count: words.len() as u64,

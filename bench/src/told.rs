@@ -77,13 +77,22 @@ pub fn frames(kind: u32, readings: u64, seed: u64, shared: bool) -> Frames {
 }
 
 impl Frames {
-    /// Damages about every second frame at up to two bytes, mostly near its front.
+    /// Damages most frames at one or two bytes, mostly near the front; in a pair also the offset of the second side.
     pub fn damage(&mut self, draw: &mut Draw) {
         for place in 0..64 {
+            let front = place * self.size;
+            if self.bytes[front] == 5 && draw.below(4) == 0 {
+                self.bytes[front + 4] = 0;
+                self.bytes[front + 5] = draw.below(16) as u8;
+            }
             for _ in 0..draw.below(3) {
                 let within = if draw.below(2) == 0 { self.size } else { self.size.min(12) };
-                let at = place * self.size + draw.below(within as u64) as usize;
-                self.bytes[at] = if draw.below(2) == 0 { self.bytes[at].wrapping_add(1) } else { draw.word() as u8 };
+                let at = front + draw.below(within as u64) as usize;
+                self.bytes[at] = match draw.below(3) {
+                    0 => self.bytes[at].wrapping_add(1),
+                    1 => draw.below(16) as u8,
+                    _ => draw.word() as u8,
+                };
             }
         }
     }
@@ -122,12 +131,12 @@ fn line(kind: u32, frames: &Frames, draw: &mut Draw) -> String {
     let (node, slot) = (draw.below(17), draw.below(34));
     match draw.below(40) {
         0..=11 => format!("g {node} {} {} {}", draw.below(40), draw.below(65_536), draw.word() >> draw.below(64)),
-        12..=18 => format!("s {node} {slot}"),
+        12..=17 => format!("s {node} {slot}"),
         19..=27 => format!("d {slot} {node}"),
         28..=34 => format!("x {slot}"),
         35 => format!("r {node}"),
         36 if kind == 5 => format!("u {node}"),
-        37 => {
+        18 | 37 => {
             let at = draw.below(64) as usize * frames.size;
             format!("a {node} {}", hex(&frames.bytes[at..at + frames.size]))
         }
