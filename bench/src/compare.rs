@@ -2,6 +2,9 @@
 use crate::told::{self, Draw, Frames, MODES};
 use crate::{IMPLEMENTATIONS, Implementation, KINDS, kind_name};
 
+// Chooses one of the calls that work on frames.
+type Choice = fn(&Implementation) -> crate::Work;
+
 // How many cases were compared, and how many differ.
 #[derive(Default)]
 struct Tally {
@@ -18,7 +21,8 @@ impl Tally {
             self.different += 1;
             println!("different: {}", what());
             for (one, answer) in IMPLEMENTATIONS.iter().zip(&answers) {
-                let bytes: Vec<String> = answer.1.iter().map(|bytes| format!("{:016x}", crate::digest(bytes))).collect();
+                let bytes: Vec<String> =
+                    answer.1.iter().map(|bytes| format!("{:016x}", crate::digest(bytes))).collect();
                 println!("  {:7} answers {}, leaves {}", one.name, answer.0, bytes.join(" "));
             }
         }
@@ -42,7 +46,8 @@ fn counting(tally: &mut Tally) {
                 for _ in 0..4 {
                     let (seed, length) = (draw.word(), some_room(&mut draw));
                     let items = told::items(mode, seed, count);
-                    let what = || format!("count {}, {}, {count}, seed {seed}, room {length}", kind_name(kind), mode.name());
+                    let what =
+                        || format!("count {}, {}, {count}, seed {seed}, room {length}", kind_name(kind), mode.name());
                     tally.case(what, |one| {
                         let mut out = room(length);
                         ((one.count)(kind, &items, &mut out) as u64, vec![out])
@@ -56,7 +61,7 @@ fn counting(tally: &mut Tally) {
 // Frames of every fullness: whole, damaged, with records exchanged, or read at a wrong size.
 fn some_frames(kind: u32, round: u64, draw: &mut Draw) -> Frames {
     let readings = [0, 1, 2, 3, 5, 31, 32, 33, 63, 64, 65, 400][(round % 12) as usize];
-    let mut frames = told::frames(kind, readings, draw.word() >> 8, round % 5 == 0);
+    let mut frames = told::frames(kind, readings, draw.word() >> 8, round.is_multiple_of(5));
     match round % 4 {
         1 => frames.damage(draw),
         2 => frames.exchange(if kind == 3 { 20 } else { 8 }, draw),
@@ -80,7 +85,7 @@ fn framing(tally: &mut Tally) {
                 });
             }
             for rounds in [0, 1, 3] {
-                let calls: [(&str, fn(&Implementation) -> crate::Work); 3] =
+                let calls: [(&str, Choice); 3] =
                     [("encode", |one| one.encode), ("gather", |one| one.gather), ("fuse", |one| one.fuse)];
                 for (name, call) in calls {
                     tally.case(what(name), |one| {
@@ -136,10 +141,13 @@ fn replaying(tally: &mut Tally) {
         }
     }
     for (name, script) in &scripts {
-        tally.case(|| format!("replay {name}"), |one| {
-            let mut out = room(1 << 20);
-            ((one.replay)(script, &mut out) as u64, vec![out])
-        });
+        tally.case(
+            || format!("replay {name}"),
+            |one| {
+                let mut out = room(1 << 20);
+                ((one.replay)(script, &mut out) as u64, vec![out])
+            },
+        );
     }
 }
 

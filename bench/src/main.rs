@@ -13,6 +13,7 @@ mod told;
 use std::process::ExitCode;
 
 type Work = fn(u32, &[u8], usize, u64, &mut [u8]);
+type Turns = fn(u32, &[u64], &[u8], usize, &mut [u8], &mut [u8]) -> u64;
 
 /// One implementation, by its calls.
 struct Implementation {
@@ -22,7 +23,7 @@ struct Implementation {
     encode: Work,
     gather: Work,
     fuse: Work,
-    turns: fn(u32, &[u64], &[u8], usize, &mut [u8], &mut [u8]) -> u64,
+    turns: Turns,
     replay: fn(&[u8], &mut [u8]) -> usize,
 }
 
@@ -41,8 +42,7 @@ macro_rules! implementation {
     };
 }
 
-static IMPLEMENTATIONS: [Implementation; 3] =
-    [implementation!(proved), implementation!(plain), implementation!(best)];
+static IMPLEMENTATIONS: [Implementation; 3] = [implementation!(proved), implementation!(plain), implementation!(best)];
 
 const KINDS: [u32; 4] = [1, 2, 3, 5];
 

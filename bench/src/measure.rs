@@ -1,6 +1,7 @@
 //! How long each operation takes in each implementation, sample by sample in turn.
 use crate::told::{self, Frames, MODES, Mode};
 use crate::{IMPLEMENTATIONS, Implementation, KINDS, Work, digest, kind_name};
+use std::cell::LazyCell;
 use std::hint::black_box;
 use std::time::Instant;
 
@@ -16,7 +17,7 @@ const SAMPLE: u64 = 2000;
 
 fn counting(kind: u32, mode: Mode, count: u64) -> Operation {
     let repeats = (SAMPLE / count).max(1);
-    let lists: Vec<Vec<u64>> = (0..repeats).map(|i| told::items(mode, 77 + (i << 32), count)).collect();
+    let lists = LazyCell::new(move || Vec::from_iter((0..repeats).map(|i| told::items(mode, 77 + (i << 32), count))));
     Operation {
         name: format!("ADD {} ({}, {count})", kind_name(kind), mode.name()),
         count: count * repeats,
@@ -32,46 +33,60 @@ fn counting(kind: u32, mode: Mode, count: u64) -> Operation {
 
 const READINGS: u64 = 400;
 
-fn frames(kind: u32, readings: u64) -> Frames {
-    told::frames(kind, readings, 1000, false)
+// How long the encoding of so many readings is.
+fn size(kind: u32, readings: u64) -> u64 {
+    match kind {
+        1 => 260,
+        2 => 4 + 8 * readings.min(64),
+        3 => 4 + 20 * readings.min(32),
+        _ => 12 + size(1, readings) + size(2, readings) + size(3, readings),
+    }
+}
+
+// An operation on 64 frames of so many readings, made when they are asked for first.
+fn on_frames(
+    what: &str,
+    count: u64,
+    kind: u32,
+    readings: u64,
+    sample: impl Fn(&Implementation, &Frames) -> u64 + 'static,
+) -> Operation {
+    let frames = LazyCell::new(move || told::frames(kind, readings, 1000, false));
+    Operation {
+        name: format!("{what} {} ({} bytes)", kind_name(kind), size(kind, readings)),
+        count,
+        sample: Box::new(move |one| sample(one, black_box(&frames))),
+    }
 }
 
 fn decoding(kind: u32, readings: u64) -> Operation {
-    let Frames { bytes, size } = frames(kind, readings);
-    Operation {
-        name: format!("DECODE {} ({size} bytes)", kind_name(kind)),
-        count: SAMPLE / 64 * 64,
-        sample: Box::new(move |one| {
-            let mut out = [0; 2048];
-            let refused: usize = (0..SAMPLE / 64).map(|_| (one.decode)(kind, black_box(&bytes), size, 64, &mut out)).sum();
-            refused as u64 ^ digest(&out)
-        }),
-    }
+    let times = SAMPLE / 64;
+    on_frames("DECODE", 64 * times, kind, readings, move |one, frames| {
+        let mut out = [0; 2048];
+        let refused: usize = (0..times).map(|_| (one.decode)(kind, &frames.bytes, frames.size, 64, &mut out)).sum();
+        refused as u64 ^ digest(&out)
+    })
 }
 
+// A call that does something so often in each of its rounds.
 fn working(what: &str, each: u64, kind: u32, readings: u64, call: fn(&Implementation) -> Work) -> Operation {
-    let Frames { bytes, size } = frames(kind, readings);
     let rounds = (SAMPLE / each).max(1);
-    Operation {
-        name: format!("{what} {} ({size} bytes)", kind_name(kind)),
-        count: rounds * each,
-        sample: Box::new(move |one| {
-            let mut out = [0; 2048];
-            call(one)(kind, black_box(&bytes), size, rounds, &mut out);
-            digest(&out)
-        }),
-    }
+    on_frames(what, rounds * each, kind, readings, move |one, frames| {
+        let mut out = [0; 2048];
+        call(one)(kind, &frames.bytes, frames.size, rounds, &mut out);
+        digest(&out)
+    })
 }
 
 fn turning(kind: u32) -> Operation {
-    let Frames { bytes, size } = frames(kind, 3);
-    let words = told::words(42, 5000);
+    let told = LazyCell::new(move || (told::words(42, 5000), told::frames(kind, 3, 1000, false)));
     Operation {
         name: format!("turns on 7 nodes, {}", kind_name(kind)),
-        count: words.len() as u64,
+        count: 5007,
         sample: Box::new(move |one| {
+            let (words, Frames { bytes, size }) = black_box(&*told);
             let (mut memory, mut room) = (vec![0; 65_536], vec![0; 2048]);
-            let sum = (one.turns)(kind, black_box(&words), &bytes, size, &mut memory, &mut room);
+            let sum = (one.turns)(kind, words, bytes, *size, &mut memory, &mut room);
             sum ^ digest(&memory[..7 * 2048])
         }),
     }
@@ -205,7 +220,9 @@ pub fn measure(rounds: usize, words: &str) {
 /// Runs one sample of an operation so many times; none where there is no such operation or implementation.
 pub fn one(name: &str, implementation: &str, times: u64) -> Option<bool> {
     let operations = operations();
-    let operation = operations.iter().find(|operation| operation.name.contains(name))?;
+    let named =
+        |exactly: bool| operations.iter().find(|one| if exactly { one.name == name } else { one.name.contains(name) });
+    let operation = named(true).or(named(false))?;
     let one = IMPLEMENTATIONS.iter().find(|one| one.name == implementation)?;
     for _ in 0..times {
         black_box((operation.sample)(one));

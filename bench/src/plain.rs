@@ -1,5 +1,5 @@
-//! The same calls by hand, as straightforward Rust: a value is a plain row that each call checks, two rows are joined into a fresh
-//! one, and one row is made for each reading.
+//! The same calls by hand, as straightforward Rust: a value is a plain row that each call checks, two rows are joined
+//! into a fresh one, and one row is made for each reading.
 use crate::script::{self, Rack, Refusal};
 use std::cmp::Ordering;
 
@@ -586,7 +586,7 @@ fn check_slot(slot: usize) -> Result<(), Refusal> {
 
 impl Network {
     fn open<S: Synopsis>(values: &mut [S], memory: &[u8], nodes: usize) -> Result<Network, Refusal> {
-        if nodes < 1 || nodes > NODES {
+        if !(1..=NODES).contains(&nodes) {
             return refused(1);
         }
         check_lent(nodes, values, memory)?;
@@ -598,7 +598,13 @@ impl Network {
         if node < self.count { Ok(()) } else { refused(4) }
     }
 
-    fn generate<S: Synopsis>(&self, values: &mut [S], memory: &[u8], node: usize, reading: Reading) -> Result<(), Refusal> {
+    fn generate<S: Synopsis>(
+        &self,
+        values: &mut [S],
+        memory: &[u8],
+        node: usize,
+        reading: Reading,
+    ) -> Result<(), Refusal> {
         check_lent(self.count, values, memory)?;
         self.check_node(node)?;
         values[node].fuse(&S::make(reading));

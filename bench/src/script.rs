@@ -59,7 +59,7 @@ fn digit(byte: u8) -> Option<u8> {
 // Pairs of capital hex digits, 1 to 2,048, put into the room.
 fn pairs<'a>(field: &[u8], room: &'a mut [u8; LONGEST]) -> Result<&'a [u8], Refusal> {
     let count = field.len() / 2;
-    if field.len() % 2 != 0 || count < 1 || count > LONGEST {
+    if !field.len().is_multiple_of(2) || !(1..=LONGEST).contains(&count) {
         return refused(21);
     }
     for (pair, place) in field.chunks_exact(2).zip(room.iter_mut()) {

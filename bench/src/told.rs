@@ -110,14 +110,13 @@ impl Frames {
     }
 }
 
-/// Words of turns on seven nodes and the slots 25 to 31, some of them at a node or a slot that is not there; at the end each node
-/// sends into a slot of its own.
+/// Words of turns on seven nodes and the slots 25 to 31, some of them at a node or a slot that is not there; at the end
+/// each node sends into a slot of its own.
 pub fn words(seed: u64, count: u64) -> Vec<u64> {
     let mut draw = Draw(seed);
     let turn = |act: u64, node: u64, slot: u64, number: u64| act | node << 4 | slot << 7 | number << 13;
-    let mut words: Vec<u64> = (0..count)
-        .map(|_| turn(draw.below(16), draw.below(8), 25 + draw.below(8), draw.below(65_536)))
-        .collect();
+    let mut words: Vec<u64> =
+        (0..count).map(|_| turn(draw.below(16), draw.below(8), 25 + draw.below(8), draw.below(65_536))).collect();
     words.extend((0..7).map(|node| turn(3, node, node, 0)));
     words
 }
@@ -140,7 +139,9 @@ fn line(kind: u32, frames: &Frames, draw: &mut Draw) -> String {
             let at = draw.below(64) as usize * frames.size;
             format!("a {node} {}", hex(&frames.bytes[at..at + frames.size]))
         }
-        38 => ["", "o v 2", "g 0 07 0 1", "r 0 ", "q", "x 4294967296", "u 3", "s  0 1", "a 0 0a"][draw.below(9) as usize].to_string(),
+        38 => ["", "o v 2", "g 0 07 0 1", "r 0 ", "q", "x 4294967296", "u 3", "s  0 1", "a 0 0a"]
+            [draw.below(9) as usize]
+            .to_string(),
         _ => format!("g {} 4294967295 {} 7", draw.below(16), draw.word()),
     }
 }
@@ -163,8 +164,8 @@ pub fn script(kind: u32, lines: u64, seed: u64) -> Vec<u8> {
     text.into_bytes()
 }
 
-/// The longest input that one replay takes, 65,536 bytes: on 16 nodes with the standard pile hosts count clients, send, deliver
-/// and drop, and now and then a node is read and a page is shown.
+/// The longest input that one replay takes, 65,536 bytes: on 16 nodes with the standard pile hosts count clients, send,
+/// deliver and drop, and now and then a node is read and a page is shown.
 pub fn longest_script() -> Vec<u8> {
     let mut draw = Draw(7);
     let mut text = "o p 16\n".to_string();

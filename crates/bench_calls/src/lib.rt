@@ -179,8 +179,8 @@ pub extern "C" fn bench_turns(
     }
 }
 
-/// Replays a script, and writes what is printed at the front of `out`. It answers how many bytes that are, or `usize::MAX` where
-/// `out` is too short.
+/// Replays a script, and writes what is printed at the front of `out`. It answers how many bytes that are; or `usize::MAX`, as where
+/// they are more than `out` has, or more than 1 MiB.
 #[unsafe(no_mangle)]
 pub extern "C" fn bench_replay(script: &[u8], out: &mut [u8]) -> usize
     ensures { (result ≡ usize.MAX) ⊎ (take result out.new ≡ printed script.now) }

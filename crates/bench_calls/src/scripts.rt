@@ -52,7 +52,7 @@ fn put(bytes: &[u8], room: &mut [u8]) -> usize
     length
 }
 
-// Replays a script; the length of what was printed, or `usize::MAX` where it did not fit.
+// Replays a script; the length of what was printed, or `usize::MAX`, as where it did not fit.
 pub(crate) fn replay(script: &[u8], out: &mut [u8]) -> usize
     ensures { (result ≡ usize.MAX) ⊎ (take result out.new ≡ printed script.now) }
 {
