@@ -1,6 +1,6 @@
-//! The same calls by hand, for speed, in safe Rust with the same fixed arrays: private fields keep the form, so that it is
-//! never checked again; a reading is compared with the greatest element and put into its place; a join is cut to what can
-//! enter, and takes no branch on the order; hashes are kept beside sampled records.
+//! The same calls by hand, for speed, in safe Rust with the same fixed arrays: private fields keep the form, so that it
+//! is never checked again; a reading is compared with the greatest element and put into its place; a join is cut to what
+//! can enter, and takes no branch on the order; hashes are kept beside sampled records.
 use crate::script::{self, Rack, Refusal};
 
 const FRAME: usize = 2048;

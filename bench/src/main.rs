@@ -64,8 +64,8 @@ const USAGE: &str = "bench compare
     compares the answers of proved, plain and best; status 1 where any differ
 bench measure [ROUNDS [WORDS]]
     prints the table, of the operations whose names contain the words; 41 rounds where nothing is said
-bench one NAME IMPLEMENTATION TIMES
-    runs one sample of an operation so many times, for a profiler
+bench one NAME IMPLEMENTATION SAMPLES
+    runs so many samples of an operation, for a profiler
 bench list
     prints the names of the operations";
 
@@ -76,7 +76,7 @@ fn run(arguments: &[&str]) -> Option<bool> {
             measure::list();
             Some(true)
         }
-        ["one", name, implementation, times] => measure::one(name, implementation, times.parse().ok()?),
+        ["one", name, implementation, samples] => measure::one(name, implementation, samples.parse().ok()?),
         ["measure"] => {
             measure::measure(41, "");
             Some(true)

@@ -1,32 +1,41 @@
 //! How long each operation takes in each implementation, sample by sample in turn.
 use crate::told::{self, Frames, MODES, Mode};
 use crate::{IMPLEMENTATIONS, Implementation, KINDS, Work, digest, kind_name};
-use std::cell::LazyCell;
+use std::cell::{LazyCell, RefCell};
 use std::hint::black_box;
 use std::time::Instant;
 
-/// An operation: what one sample of it is, how many times the sample does it, and what the sample answers.
+// Is shown the bytes that an operation leaves.
+type Look<'a> = &'a mut dyn FnMut(&[u8]);
+
+type Samples = Box<dyn Fn(&Implementation, u64, Look)>;
+
+/// An operation, how many times one sample does it, and so many samples of it. No samples are what comes before and after.
 struct Operation {
     name: String,
     count: u64,
-    sample: Box<dyn Fn(&Implementation) -> u64>,
+    samples: Samples,
 }
 
-// A sample is short, so that most of them are not interrupted; a few items are counted anew to fill one.
+// A sample is short, so that most of them are not interrupted.
 const SAMPLE: u64 = 2000;
 
+// Some items are counted into a value that is empty at first, which is then encoded. Few items are counted several times,
+// so that they fill a sample.
 fn counting(kind: u32, mode: Mode, count: u64) -> Operation {
     let repeats = (SAMPLE / count).max(1);
     let lists = LazyCell::new(move || Vec::from_iter((0..repeats).map(|i| told::items(mode, 77 + (i << 32), count))));
     Operation {
         name: format!("ADD {} ({}, {count})", kind_name(kind), mode.name()),
         count: count * repeats,
-        sample: Box::new(move |one| {
+        samples: Box::new(move |one, samples, look| {
             let mut out = [0; 2048];
-            lists.iter().fold(0, |sum, items| {
-                let length = (one.count)(kind, black_box(items), &mut out);
-                sum ^ digest(&out[..length])
-            })
+            for _ in 0..samples {
+                for items in &*lists {
+                    let length = (one.count)(kind, black_box(items), &mut out);
+                    look(&out[..length]);
+                }
+            }
         }),
     }
 }
@@ -43,51 +52,57 @@ fn size(kind: u32, readings: u64) -> u64 {
     }
 }
 
-// An operation on 64 frames of so many readings, made when they are asked for first.
+// An operation on 64 frames of so many readings, which are made when they are asked for first.
 fn on_frames(
     what: &str,
     count: u64,
     kind: u32,
     readings: u64,
-    sample: impl Fn(&Implementation, &Frames) -> u64 + 'static,
+    samples: impl Fn(&Implementation, &Frames, u64, &mut [u8]) + 'static,
 ) -> Operation {
     let frames = LazyCell::new(move || told::frames(kind, readings, 1000, false));
     Operation {
         name: format!("{what} {} ({} bytes)", kind_name(kind), size(kind, readings)),
         count,
-        sample: Box::new(move |one| sample(one, black_box(&frames))),
+        samples: Box::new(move |one, times, look| {
+            let mut out = [0; 2048];
+            samples(one, black_box(&frames), times, &mut out);
+            look(&out);
+        }),
     }
 }
 
+// One value takes 64 frames in turn, and is then encoded.
 fn decoding(kind: u32, readings: u64) -> Operation {
     let times = SAMPLE / 64;
-    on_frames("DECODE", 64 * times, kind, readings, move |one, frames| {
-        let mut out = [0; 2048];
-        let refused: usize = (0..times).map(|_| (one.decode)(kind, &frames.bytes, frames.size, 64, &mut out)).sum();
-        refused as u64 ^ digest(&out)
+    on_frames("DECODE", 64 * times, kind, readings, move |one, frames, samples, out| {
+        for _ in 0..times * samples {
+            black_box((one.decode)(kind, &frames.bytes, frames.size, 64, out));
+        }
     })
 }
 
 // A call that does something so often in each of its rounds.
 fn working(what: &str, each: u64, kind: u32, readings: u64, call: fn(&Implementation) -> Work) -> Operation {
     let rounds = (SAMPLE / each).max(1);
-    on_frames(what, rounds * each, kind, readings, move |one, frames| {
-        let mut out = [0; 2048];
-        call(one)(kind, &frames.bytes, frames.size, rounds, &mut out);
-        digest(&out)
+    on_frames(what, rounds * each, kind, readings, move |one, frames, samples, out| {
+        call(one)(kind, &frames.bytes, frames.size, rounds * samples, out);
     })
 }
 
 fn turning(kind: u32) -> Operation {
     let told = LazyCell::new(move || (told::words(42, 5000), told::frames(kind, 3, 1000, false)));
+    let lent = RefCell::new((vec![0; 65_536], vec![0; 2048]));
     Operation {
         name: format!("turns on 7 nodes, {}", kind_name(kind)),
         count: 5007,
-        sample: Box::new(move |one| {
+        samples: Box::new(move |one, samples, look| {
             let (words, Frames { bytes, size }) = black_box(&*told);
-            let (mut memory, mut room) = (vec![0; 65_536], vec![0; 2048]);
-            let sum = (one.turns)(kind, words, bytes, *size, &mut memory, &mut room);
-            sum ^ digest(&memory[..7 * 2048])
+            let (memory, room) = &mut *lent.borrow_mut();
+            for _ in 0..samples {
+                black_box((one.turns)(kind, words, bytes, *size, memory, room));
+            }
+            look(&memory[..7 * 2048]);
         }),
     }
 }
@@ -95,12 +110,16 @@ fn turning(kind: u32) -> Operation {
 fn replaying() -> Operation {
     let script = told::longest_script();
     let lines = script.iter().filter(|byte| **byte == b'\n').count();
+    let out = RefCell::new(vec![0; 1 << 20]);
     Operation {
         name: format!("a line of the longest input ({lines} lines)"),
         count: lines as u64,
-        sample: Box::new(move |one| {
-            let mut out = vec![0; 1 << 20];
-            (one.replay)(black_box(&script), &mut out) as u64
+        samples: Box::new(move |one, samples, look| {
+            let out = &mut *out.borrow_mut();
+            for _ in 0..samples {
+                let length = (one.replay)(black_box(&script), out);
+                look(&out[..length]);
+            }
         }),
     }
 }
@@ -131,15 +150,30 @@ fn median(mut times: Vec<f64>) -> f64 {
     times[times.len() / 2]
 }
 
-// Nanoseconds of one operation in one sample.
-fn timed(operation: &Operation, one: &Implementation) -> f64 {
+// Nanoseconds of so many samples.
+fn elapsed(operation: &Operation, one: &Implementation, samples: u64) -> f64 {
     let start = Instant::now();
-    black_box((operation.sample)(one));
-    start.elapsed().as_nanos() as f64 / operation.count as f64
+    (operation.samples)(one, samples, &mut |bytes| {
+        black_box(bytes);
+    });
+    start.elapsed().as_nanos() as f64
+}
+
+// Nanoseconds of one operation in one sample; what comes before and after is taken off.
+fn timed(operation: &Operation, one: &Implementation) -> f64 {
+    let around = elapsed(operation, one, 0);
+    (elapsed(operation, one, 1) - around) / operation.count as f64
+}
+
+// A number for all the bytes that a sample leaves.
+fn answer(operation: &Operation, one: &Implementation) -> u64 {
+    let mut all = 0;
+    (operation.samples)(one, 1, &mut |bytes| all ^= digest(bytes));
+    all
 }
 
 fn row(operation: &Operation, rounds: usize) {
-    let answers = IMPLEMENTATIONS.each_ref().map(|one| (operation.sample)(one));
+    let answers = IMPLEMENTATIONS.each_ref().map(|one| answer(operation, one));
     let mut times: [Vec<f64>; 3] = Default::default();
     for round in 0..rounds {
         for turn in 0..3 {
@@ -206,7 +240,7 @@ pub fn list() {
 
 /// Prints a row for each operation whose name contains the words, and for all of them the floors.
 pub fn measure(rounds: usize, words: &str) {
-    println!("Medians in ns of one operation, and of the ratios within one round; {rounds} rounds.\n");
+    println!("Medians of {rounds} rounds: ns of one operation, and ratios within one round.\n");
     println!("| operation | proved | plain | best | proved/plain | proved/best | least of each | equal |");
     println!("|---|---|---|---|---|---|---|---|");
     for operation in operations().iter().filter(|operation| operation.name.contains(words)) {
@@ -217,16 +251,14 @@ pub fn measure(rounds: usize, words: &str) {
     }
 }
 
-/// Runs one sample of an operation so many times; none where there is no such operation or implementation.
-pub fn one(name: &str, implementation: &str, times: u64) -> Option<bool> {
+/// Runs so many samples of an operation; none where there is no such operation or implementation.
+pub fn one(name: &str, implementation: &str, samples: u64) -> Option<bool> {
     let operations = operations();
     let named =
         |exactly: bool| operations.iter().find(|one| if exactly { one.name == name } else { one.name.contains(name) });
     let operation = named(true).or(named(false))?;
     let one = IMPLEMENTATIONS.iter().find(|one| one.name == implementation)?;
-    for _ in 0..times {
-        black_box((operation.sample)(one));
-    }
-    println!("{}, {implementation}: {} operations", operation.name, times * operation.count);
+    elapsed(operation, one, samples);
+    println!("{}, {implementation}: {} operations", operation.name, samples * operation.count);
     Some(true)
 }
