@@ -5,6 +5,7 @@ README.md says what each line asks for, and what its answer holds.
 
 import re
 import sys
+from functools import reduce
 from itertools import groupby
 
 sys.dont_write_bytecode = True
@@ -14,11 +15,14 @@ from fields import BadLine, number, octets
 from frames import shown
 from kinds import NotWritten, Refused
 from pair import KINDS
-from readings import NOUGHT, STEP, WORD, hash_of, mark_of
+from readings import STEP, WORD, Reading, hash_of, mark_of
 from runs import RunKind
 
 MOST_OUTPUTS = 64
 MOST_ROOM = 2100
+
+# the width of a reading: item, tenant and amount
+READING = 20
 
 
 # The fields of a line.
@@ -27,6 +31,25 @@ def word(text):
     if not re.fullmatch("[0-9A-F]{16}", text):
         raise BadLine
     return int(text, 16)
+
+
+def readings(text):
+    data, found = octets(text), []
+    if len(data) % READING:
+        raise BadLine
+    for at in range(0, len(data), READING):
+        ends = (at, at + 8, at + 12, at + 20)
+        item, tenant, amount = (int.from_bytes(data[i:j], "big") for i, j in zip(ends, ends[1:]))
+        found.append(Reading(tenant, item, amount))
+    return found
+
+
+def plain_row(kind, count, places):
+    """What a plain row stands for."""
+    data = octets(places)
+    if not isinstance(kind, RunKind) or len(data) % kind.width or len(data) > kind.width * kind.most:
+        raise BadLine
+    return kind.stands_for(number(count), data)
 
 
 # The parts of an answer.
@@ -122,13 +145,25 @@ def encode(kind, text, room_size):
     return f"ok {length} {shown(after)}"
 
 
-def row(kind, count, places):
-    data = octets(places)
-    if not isinstance(kind, RunKind) or len(data) % kind.width or len(data) > kind.width * kind.most:
-        raise BadLine
-    run = kind.stands_for(number(count), data)
-    one, other = kind.join(run, kind.single(NOUGHT)), kind.join(kind.single(NOUGHT), run)
-    return f"{written(kind, run)} {kind.figure(run)} {written(kind, one)} {written(kind, other)}"
+def with_readings(kind, form, text):
+    """The form with the readings counted into it, written."""
+    return written(kind, reduce(kind.join, map(kind.single, readings(text)), form))
+
+
+def add(kind, frame, text):
+    try:
+        return with_readings(kind, kind.decode(octets(frame)), text)
+    except Refused:
+        raise BadLine from None
+
+
+def row(kind, count, places, text):
+    run = plain_row(kind, count, places)
+    return f"{written(kind, run)} {kind.figure(run)} {with_readings(kind, run, text)}"
+
+
+def fuse(kind, count, places, count_there, places_there):
+    return written(kind, kind.join(plain_row(kind, count, places), plain_row(kind, count_there, places_there)))
 
 
 OF_NO_KIND = {"item": (item, 1), "mark": (mark, 1), "outputs": (outputs, 2), "lowest": (lowest, 1)}
@@ -140,7 +175,9 @@ OF_A_KIND = {
     "cuts": (cuts, 1),
     "changes": (changes, 2),
     "encode": (encode, 2),
-    "row": (row, 2),
+    "add": (add, 2),
+    "row": (row, 3),
+    "fuse": (fuse, 4),
 }
 
 

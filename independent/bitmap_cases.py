@@ -1,5 +1,6 @@
 """Cases of bitmaps."""
 
+from adding_cases import other_sorts
 from bitmaps import BITMAPS
 from common_cases import (change_cases, damage_cases, drawn_damage_cases, encode_cases, frame_like,
                           header_cases, lines, other_kind_cases, short_cases)
@@ -43,4 +44,5 @@ SORTS = {
     "drawn damages": lambda: drawn_damage_cases(BITMAPS, "b", 60),
     "changed bytes": lambda: change_cases(SOME),
     "encodes into rooms": lambda: encode_cases(BITMAPS, "b", (0, 1, 50)),
+    **other_sorts(BITMAPS, (0, 1, 2, 60)),
 }

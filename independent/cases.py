@@ -42,8 +42,13 @@ def bad_fields():
                 "decode 0200000a", "decode 0x02", "decode --", "decode - -", "all", "all 0", "all 00 00", "cuts",
                 "cuts 0", "cuts - -", "changes - 01", "changes 02000004 0101", "changes 02000004 -",
                 "changes 02000004", "changes 02000004 1", "encode", "encode 02000004", "encode 02000004 2101",
-                "encode 02000004 -1", "encode 02000004 01", "encode 02000005 9", "encode - 9", "row 1 00", "row -1 -",
-                "row 01 -", "row 18446744073709551616 -", "row 3", "row 32 " + "00" * 660, "row 64 " + "00" * 648)
+                "encode 02000004 -1", "encode 02000004 01", "encode 02000005 9", "encode - 9", "add", "add - -",
+                "add 02000005 -", "add 02000004 00", "add 03000004 " + "00" * 19, "add 05020004 " + "00" * 20,
+                "add 03000004 - -", "add 03000004 0", "row 1 00 -", "row -1 - -", "row 01 - -",
+                "row 18446744073709551616 - -", "row 3", "row 0 -", "row 0 - 0", "row 0 - " + "00" * 21,
+                "row 0 - - -", "row 32 " + "00" * 660 + " -", "row 64 " + "00" * 648 + " -", "fuse", "fuse 0 -",
+                "fuse 0 - 0", "fuse 0 - 0 - 0", "fuse 1 00 0 -", "fuse 0 - 1 00", "fuse -1 - 0 -", "fuse 0 - 01 -",
+                "fuse 0 - 18446744073709551616 -")
 
 
 def bad_cases():
@@ -54,9 +59,11 @@ def bad_cases():
                 "outputs 1 65", "outputs 01 5", "outputs +1 5", "outputs -1 5", "outputs 1",
                 "outputs 18446744073709551616 1", "outputs 99999999999999999999999 1", "lowest", "lowest -",
                 "lowest 4294967296", "lowest 00", "lowest 7 7", "lowest 00000007 ", "v", "p", "x kind", "V kind",
-                "vv kind", "5 kind", " v kind", "v  kind", "decode 02000004", "encode 02000004 4", "row 0 -",
-                "b row 0 -", "p row 0 -", "t row 0 -", "n row 0 -", "o row 0 -", "s row 1 " + "00" * 8,
-                "s row 1 " + "00" * 19, "v row 1 " + "00" * 20, "v row 64 " + "00" * 520)
+                "vv kind", "5 kind", " v kind", "v  kind", "decode 02000004", "encode 02000004 4", "add 02000004 -",
+                "row 0 - -", "fuse 0 - 0 -", *(f"{letter} row 0 - -" for letter in "bptno"),
+                *(f"{letter} fuse 0 - 0 -" for letter in "bptno"), "s row 1 " + "00" * 8 + " -",
+                "s row 1 " + "00" * 19 + " -", "v row 1 " + "00" * 20 + " -", "v row 64 " + "00" * 520 + " -",
+                "s fuse 1 " + "00" * 8 + " 0 -", "v fuse 0 - 1 " + "00" * 20)
     for letter in KINDS:
         for fields in bad_fields():
             yield f"{letter} {fields}"

@@ -1,8 +1,9 @@
 """Cases about no kind, and cases that several kinds share. A kind's cases come without the kind's letter."""
 
 from draws import TOP, Draws, item_with, rare_hashes, readings_like, telling_words
-from frames import damages, hexed, packed, shown
+from frames import damages, hexed, packed, records_of, shown
 from pair import KINDS
+from readings import NOUGHT
 
 MASKS = ("01", "80", "FF")
 
@@ -148,8 +149,12 @@ def encode_cases(kind, letter, counts):
         yield f"encode {shown(frame)} {room}"
 
 
-def row_line(count, body):
-    return f"row {count} {shown(body)}"
+def row_line(count, body, readings=(NOUGHT,)):
+    return f"row {count} {shown(body)} {shown(records_of(readings))}"
+
+
+def add_line(frame, readings):
+    return f"add {shown(frame)} {shown(records_of(readings))}"
 
 
 def row_cases(kind, full, short, body_of):

@@ -1,5 +1,6 @@
 """Cases of least values."""
 
+from adding_cases import row_sorts
 from common_cases import (body_cases, change_cases, encode_cases, header_cases, lines, other_kind_cases, row_cases,
                           row_line, short_cases)
 from draws import TOP, run_like
@@ -109,4 +110,5 @@ SORTS = {
     "bytes added": lambda: lines("decode", with_tails()),
     "encodes into rooms": lambda: encode_cases(LEAST, "v", (0, 1, 2, 5, 62, 63, 64)),
     "plain rows": plain_row_cases,
+    **row_sorts(LEAST),
 }

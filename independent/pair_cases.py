@@ -1,5 +1,6 @@
 """Cases of pairs: the standard pile and others, and one that is overlong."""
 
+from adding_cases import other_sorts
 from common_cases import (change_cases, damage_cases, drawn_damage_cases, encode_cases, frame_like, header_cases,
                           lines, other_kind_cases, short_cases)
 from frames import framed, packed, paired, shown, sides
@@ -63,6 +64,7 @@ def sorts(letter, counts, greatest):
         "drawn damages": lambda: drawn_damage_cases(kind, letter, 80),
         "changed bytes": lambda: change_cases([some], ("01", "04", "80", "FF")),
         "encodes into rooms": lambda: encode_cases(kind, letter, (0, 1, 80)),
+        **other_sorts(kind, (0, 1, 2, 65)),
     }
 
 

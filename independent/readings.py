@@ -14,7 +14,7 @@ class Reading(NamedTuple):
     amount: int
 
 
-# the reading that rows are joined with
+# the reading that is counted into a row where no other is named
 NOUGHT = Reading(0, 0, 0)
 
 

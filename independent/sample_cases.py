@@ -1,5 +1,6 @@
 """Cases of the sample."""
 
+from adding_cases import row_sorts, ties
 from common_cases import (body_cases, change_cases, damage_cases, drawn_damage_cases, encode_cases, frame_like,
                           header_cases, lines, other_kind_cases, row_cases, row_line, short_cases)
 from draws import TOP, item_with, readings_like, sample_order
@@ -130,4 +131,6 @@ SORTS = {
     "order by hash": lambda: lines("decode", map(sampled, orders_by_hash())),
     "encodes into rooms": lambda: encode_cases(SAMPLE, "s", (0, 1, 2, 31, 32)),
     "plain rows": plain_row_cases,
+    **row_sorts(SAMPLE),
+    "records of equal hashes": lambda: ties(SAMPLE, MOST),
 }

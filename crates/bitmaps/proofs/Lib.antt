@@ -1,2 +1,3 @@
 pub mod LowestZeros
 pub mod Roots
+pub mod Marks

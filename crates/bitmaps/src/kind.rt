@@ -51,6 +51,11 @@ impl Synopsis for Bitmaps {
         }
     }
 
+    fn add(&mut self, reading: Reading) {
+        let (bucket, rank) = mark(reading.hash());
+        self.maps[bucket as usize] |= bit(rank);
+    }
+
     fn length(&self) -> usize {
         Self::greatest_length()
     }
@@ -60,9 +65,7 @@ impl Synopsis for Bitmaps {
     }
 
     fn decode(&mut self, frame: &[u8]) -> Result<(), DecodeFault> {
-        let mut maps = [0; 64];
-        decode_records(Self::NUMBER, 64, frame, &mut maps)?;
-        *self = Bitmaps { maps };
+        decode_records(Self::NUMBER, 64, frame, &mut self.maps)?;
         Ok(())
     }
 }

@@ -1,15 +1,10 @@
 -- Bytes that are written part by part, from the front on.
 use Rattle.std.proofs.Common.{◌≡◌, ℕ, ◌-◌, ◌≤◌, List, ◌++◌, length, drop, sym, ap, ◌∙◌, arith}
 use borrow.Rule.Slice.PartMut.{put_mid}
-use Rattle.std.specs.List.{between}
-use Rattle.std.proofs.lemmas.List.{length-append, length-drop, take_at, drop_at, drop-drop, append_assoc}
-use Rattle.std.proofs.lemmas.List.Edits.{length-between}
+use Rattle.std.proofs.lemmas.List.{take_at, drop_at, drop-drop, append_assoc}
 
--- the next part, and all of them once it is written
+-- all of them once the next part is written
 module _ (front out : List ℕ) (at to : ℕ) (e : length front ≡ at) (up : at ≤ to) where
-  pub next_length : to ≤ length out → length (between at to (front ++ drop at out)) ≡ to - at
-  next_length le = length-between (front ++ drop at out) at to (simp (length-append, length-drop) (omega arith))
-
   pub next_written : (part : List ℕ) → put_mid at (to - at) (front ++ drop at out) part ≡ (front ++ part) ++ drop to out
   next_written part =
       ap (λ (l : List ℕ). l ++ (part ++ drop (to - at) (drop at (front ++ drop at out)))) (take_at front (drop at out) at e)

@@ -1,7 +1,8 @@
 -- Bytes of a number read back as the number, and the other way round.
-use Rattle.std.proofs.Common.{◌≡◌, ℕ, zero, suc, ◌+◌, ◌-◌, ◌*◌, ◌/◌, ◌%◌, ◌^◌, ◌<◌, ◌≤◌, List, [], ◌∷◌, length, drop, set, sym, refl, ap, ◌∙◌, mod-eq_of_lt, pow-suc, div-add-mod', div-one, arith}
+use Rattle.std.proofs.Common.{◌≡◌, ℕ, zero, suc, ◌+◌, ◌-◌, ◌*◌, ◌/◌, ◌%◌, ◌^◌, ◌<◌, ◌≤◌, List, [], ◌∷◌, length, get_or, drop, set, sym, refl, ap, ◌∙◌, mod-eq_of_lt, pow-suc, div-add-mod', div-one, arith}
 use native.Mathlib.Nat.{div-div-eq-div-mul, pow-le-pow_right}
 use Rattle.std.proofs.lemmas.List.{drop-set}
+use Rattle.std.proofs.lemmas.List.Elements.{recursion_from_All, All-from_get_or}
 use Rattle.std.specs.List.{AllByRecursion}
 use Rattle.std.specs.Int.Digits.{number_from_digits_after}
 use Rattle.std.proofs.lemmas.Int.Digits.{number_lt}
@@ -70,3 +71,7 @@ from_small w ds all few =
     let below : from_bytes ds < 256 ^ length ds = number_lt 256 ds all in
     let most : 256 ^ length ds ≤ 256 ^ w = pow-le-pow_right (omega arith) few in
     mod-eq_of_lt (omega arith)
+
+-- bytes are small wherever one looks, and so all of them are
+pub all_small : (bytes : List ℕ) → ((i : ℕ) → get_or bytes i 0 < 256) → AllByRecursion (λ b. b < 256) bytes
+all_small bytes small = recursion_from_All (λ b. b < 256) bytes (All-from_get_or (λ b. b < 256) bytes 0 (λ i _. small i))

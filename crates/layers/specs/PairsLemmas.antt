@@ -1,25 +1,25 @@
 -- The pair of two lawful kinds is lawful, and its frames are written and read side by side.
-use Rattle.std.specs.Prelude.{◌≡◌, ℕ, ◌+◌, ◌-◌, ◌/◌, ◌%◌, ◌<◌, ◌≤◌, true, false, ◌||◌, List, [], ◌∷◌, ◌++◌, length, drop, All, Contains, Ok, Err, Result, MatchResult, ◌==◌, nat_eq, nat_lt, slice_index, slice_index_or, refl}
+use Rattle.std.specs.Prelude.{◌≡◌, ℕ, ◌+◌, ◌-◌, ◌/◌, ◌%◌, ◌<◌, ◌≤◌, true, false, ◌||◌, List, [], ◌∷◌, ◌++◌, length, take, drop, All, Contains, Ok, Err, Result, MatchResult, ◌==◌, nat_eq, nat_lt, slice_index, slice_index_or, refl}
 use Rattle.std.proofs.Common.{sym, ap, ◌∙◌, arith}
 use borrow.Rule.Slice.PartMut.{put_mid}
 use Rattle.std.specs.Result.{result_map_both}
 use Rattle.std.specs.List.{between}
-use Rattle.std.proofs.lemmas.List.{length-append, take_at, take_all, drop_at, drop-drop, drop_more, take_rest, take-append-drop}
+use Rattle.std.proofs.lemmas.List.{length-append, length-take, length-drop, take_at, take_all, drop_at, drop-drop, drop_more, take_rest, take-append-drop, append_assoc}
 use Rattle.std.proofs.lemmas.List.Edits.{length-between}
 use Rattle.std.proofs.lemmas.List.Elements.{All-from_get_or, Contains-append_left, Contains-append_right}
 use Rattle.std.proofs.lemmas.Result.{MatchResult-weaker}
 use Rattle.std.proofs.lemmas.Bool.{ltb-false, eq-eqb, eqb-true, cond-true, cond-false, cond_both, or_parts}
 use Rattle.std.proofs.lemmas.Bool.Decides.{nat_tests}
 use Rattle.synopsis.specs.declared.fault.DecodeFault.{DecodeFault}
-use Rattle.synopsis.specs.Kind.{Kind, Laws, overlong, frame_length, encode_after}
+use Rattle.synopsis.specs.Kind.{Kind, Laws, overlong, over, encode_answer, encode_after}
+use Rattle.synopsis.proofs.Fits.{over_so}
 use Rattle.synopsis.proofs.Reading.{read_apart, own_fault, Tells, tells_exact, tells_arises, tells_inside}
 use Rattle.frames.specs.declared.header.Header.{Header}
 use Rattle.frames.specs.Numbers.{in_bytes}
 use Rattle.frames.proofs.Headers.{Read, Opens, opened_header, opened_tells, header_back}
-use Rattle.frames.proofs.Fronts.{next_length, next_written}
 use Rattle.layers.specs.Parts.{then_read, raise, read_part}
 use Rattle.layers.specs.Pairs.{pair_head, pair_bytes, offset_in, misplaced, offset_after, second_offset, read_sides, pair_kind}
-use Rattle.layers.specs.PartsLemmas.{fits_length, room_after, filled, then_tells, part_tells}
+use Rattle.layers.specs.PartsLemmas.{last_length, last_written, then_tells, part_tells}
 
 -- a pair that is not overlong has no overlong side
 module _ (a b : Kind) (h : overlong (pair_kind a b) ≡ false) where
@@ -182,43 +182,42 @@ module _ (a b : Kind) (l : Laws a) (m : Laws b) where
     shut = λ h bytes. cond-true (overlong (pair_kind a b)) _ _ h;
   }
 
-module _ (a b : Kind) (h : overlong (pair_kind a b) ≡ false) (x : a.Form) (y : b.Form) where
-  pub pair_length : (n m : ℕ) → n ≡ frame_length a x → m ≡ frame_length b y → 6 + n + m ≡ length (pair_bytes (a.encoding x) (b.encoding y))
-  pair_length n m p q =
-      let long = length_pair (a.encoding x) (b.encoding y) in
-      let first = fits_length a (first_fits a b h) x in
-      let second = fits_length b (second_fits a b h) y in
-      omega arith
-
-  -- the head and the sides, written one after another
-  pub pair_written : (out head p q : List ℕ) (n m : ℕ) → n ≡ frame_length a x → m ≡ frame_length b y → 6 + n + m ≤ length out → head ≡ pair_head (6 + n) (6 + n + m)
-      → p ≡ encode_after a x (between 6 (6 + n) (head ++ drop 6 out))
-      → q ≡ encode_after b y (between (6 + n) (6 + n + m) (put_mid 6 (6 + n - 6) (head ++ drop 6 out) p))
-      → put_mid (6 + n) (6 + n + m - (6 + n)) (put_mid 6 (6 + n - 6) (head ++ drop 6 out) p) q ≡ encode_after (pair_kind a b) (x, y) out
-  pair_written out head p q n m n_is m_is room head_is p_is q_is =
-      let at = 6 + n in
-      let end = 6 + n + m in
-      let whole = pair_length n m n_is m_is in
-      let first : n ≡ length (a.encoding x) = n_is ∙ fits_length a (first_fits a b h) x in
-      let second : m ≡ length (b.encoding y) = m_is ∙ fits_length b (second_fits a b h) y in
-      let six : length head ≡ 6 = ap length head_is in
-      let written = next_written head out 6 at six (omega arith) p in
-      let p_filled : p ≡ a.encoding x =
-      p_is ∙ filled a (first_fits a b h) x (between 6 at (head ++ drop 6 out)) (next_length head out 6 at six (omega arith) (omega arith) ∙ omega arith) in
-      let front : length (head ++ p) ≡ at = simp length-append (omega (arith, ap length p_filled)) in
-      let q_filled : q ≡ b.encoding y =
-      q_is
-      ∙ ap (λ (l : List ℕ). encode_after b y (between at end l)) written
-      ∙ filled b (second_fits a b h) y (between at end ((head ++ p) ++ drop at out)) (next_length (head ++ p) out at end front (omega arith) (omega arith) ∙ omega arith) in
-      let parts : (head ++ p) ++ q ≡ pair_bytes (a.encoding x) (b.encoding y) =
-      ap (λ (l : List ℕ). (l ++ p) ++ q) (head_is ∙ ap (λ (i : ℕ). pair_head (6 + i) (6 + i + m)) first ∙ ap (λ (i : ℕ). pair_head (6 + length (a.encoding x)) (6 + length (a.encoding x) + i)) second)
-      ∙ ap (λ (l : List ℕ). (pair_head (6 + length (a.encoding x)) (6 + length (a.encoding x) + length (b.encoding y)) ++ l) ++ q) p_filled
-      ∙ ap (λ (l : List ℕ). (pair_head (6 + length (a.encoding x)) (6 + length (a.encoding x) + length (b.encoding y)) ++ a.encoding x) ++ l) q_filled in
-      ap (λ (l : List ℕ). put_mid at (end - at) l q) written
-      ∙ next_written (head ++ p) out at end front (omega arith) q
-      ∙ ap (λ (l : List ℕ). l ++ drop end out) parts
-      ∙ ap (λ (i : ℕ). pair_bytes (a.encoding x) (b.encoding y) ++ drop i out) whole
-      ∙ room_after (pair_kind a b) h (x, y) out (omega arith)
+-- the sides are written one behind the other, and the head last
+module _ (a b : Kind) (l : Laws a) (m : Laws b) (h : overlong (pair_kind a b) ≡ false) (x : a.Form) (y : b.Form) where
+  pub sides_written : (out p q head : List ℕ) (n k : ℕ) → (pair_kind a b).greatest ≤ length out
+      → Ok n ≡ encode_answer a x (length (between 6 (length out) out))
+      → p ≡ encode_after a x (between 6 (length out) out)
+      → Ok k ≡ encode_answer b y (length (between (6 + n) (length (put_mid 6 (length out - 6) out p)) (put_mid 6 (length out - 6) out p)))
+      → q ≡ encode_after b y (between (6 + n) (length (put_mid 6 (length out - 6) out p)) (put_mid 6 (length out - 6) out p))
+      → head ≡ pair_head (6 + n) (6 + n + k)
+      → head ++ drop 6 (put_mid (6 + n) (length (put_mid 6 (length out - 6) out p) - (6 + n)) (put_mid 6 (length out - 6) out p) q) ≡ over (pair_bytes (a.encoding x) (b.encoding y)) out
+  sides_written out p q head n k room n_is p_is k_is q_is head_is =
+      let first = a.encoding x in
+      let second = b.encoding y in
+      let front = take 6 out in
+      let rest = drop 6 out in
+      let behind = drop (length first) rest in
+      let short = ltb-false 2048 (pair_kind a b).greatest h in
+      let first_most = l.most (first_fits a b h) x in
+      let second_most = m.most (second_fits a b h) y in
+      let frame_long = length_pair first second in
+      let whole : out ≡ front ++ rest = sym (take-append-drop 6 out) in
+      let six : length front ≡ 6 = simp length-take (omega arith) in
+      let first_room : a.greatest ≤ length rest = omega (arith, length-drop 6 out) in
+      let n_long = last_length a l (first_fits a b h) x out front rest 6 whole six first_room n n_is in
+      let written = last_written a l (first_fits a b h) x out front rest 6 whole six first_room p p_is in
+      let at : length (front ++ first) ≡ 6 + n = simp length-append (omega arith) in
+      let second_room : b.greatest ≤ length behind = omega (arith, length-drop (length first) rest, length-drop 6 out) in
+      let k_long = last_length b m (second_fits a b h) y (put_mid 6 (length out - 6) out p) (front ++ first) behind (6 + n) written at second_room k k_is in
+      let last = last_written b m (second_fits a b h) y (put_mid 6 (length out - 6) out p) (front ++ first) behind (6 + n) written at second_room q q_is in
+      let end : 6 + (length first + length second) ≡ length (pair_bytes first second) = omega arith in
+      let left : drop (length second) behind ≡ drop (length (pair_bytes first second)) out =
+      drop-drop (length second) (length first) rest ∙ drop-drop (length first + length second) 6 out ∙ ap (λ (i : ℕ). drop i out) end in
+      ap (λ (bytes : List ℕ). head ++ drop 6 bytes) (last ∙ append_assoc (front ++ first) second (drop (length second) behind) ∙ append_assoc front first (second ++ drop (length second) behind))
+      ∙ ap (λ (bytes : List ℕ). head ++ bytes) (drop_at front (first ++ (second ++ drop (length second) behind)) 6 six)
+      ∙ ap (λ (bytes : List ℕ). bytes ++ (first ++ (second ++ drop (length second) behind))) (head_is ∙ ap (λ (i : ℕ). pair_head (6 + i) (6 + i + k)) n_long ∙ ap (λ (i : ℕ). pair_head (6 + length first) (6 + length first + i)) k_long)
+      ∙ ap (λ (bytes : List ℕ). pair_head (6 + length first) (6 + length first + length second) ++ bytes) (sym (append_assoc first second (drop (length second) behind)) ∙ ap (λ (bytes : List ℕ). (first ++ second) ++ bytes) left)
+      ∙ over_so (pair_bytes first second) out (omega arith)
 
 -- bytes whose sides are read are the frame of both
 pub pair_read : (a b : Kind) → Laws a → Laws b → overlong (pair_kind a b) ≡ false → (bytes : List ℕ) (at : ℕ) (x : a.Form) (y : b.Form) → second_offset bytes ≡ Ok at → ((i : ℕ) → slice_index bytes i < 256)

@@ -1,30 +1,38 @@
 -- Frames that are parts of a frame: how they are written one after another, and what is told where they are read.
-use Rattle.std.specs.Prelude.{◌≡◌, ℕ, ◌-◌, ◌<◌, ◌≤◌, false, List, ◌∷◌, ◌++◌, length, drop, All, Contains, Ok, Err, Result, MatchResult}
+use Rattle.std.specs.Prelude.{◌≡◌, ℕ, ◌-◌, ◌<◌, ◌≤◌, false, List, ◌∷◌, ◌++◌, length, take, drop, All, Contains, Ok, Err, Result, MatchResult}
 use Rattle.std.proofs.Common.{sym, ap, ◌∙◌, arith}
 use Rattle.std.specs.Result.{result_map_both}
 use Rattle.std.specs.List.{between}
-use Rattle.std.proofs.lemmas.List.{drop_all, append-nil}
+use borrow.Rule.Slice.PartMut.{put_mid}
+use Rattle.std.proofs.lemmas.List.{length-drop, take_at, take_rest, drop_at, drop_all, append-nil, append_assoc}
 use Rattle.std.proofs.lemmas.List.Edits.{length-between}
 use Rattle.std.proofs.lemmas.List.Elements.{All-take, All-drop}
-use Rattle.std.proofs.lemmas.Bool.{cond-false}
 use Rattle.synopsis.specs.declared.fault.DecodeFault.{DecodeFault}
-use Rattle.synopsis.specs.Kind.{Kind, Laws, overlong, frame_length, encode_after}
-use Rattle.synopsis.proofs.Fits.{over_so}
+use Rattle.synopsis.specs.declared.fault.EncodeFault.{EncodeFault}
+use Rattle.synopsis.specs.Kind.{Kind, Laws, overlong, encode_answer, encode_after}
+use Rattle.synopsis.proofs.Fits.{encode_ok, encode_over}
 use Rattle.synopsis.proofs.Reading.{Tells, laws_tell}
 use Rattle.layers.specs.Parts.{then_read, raise, read_part}
 
--- what a kind that is not overlong answers and writes
-module _ (k : Kind) (h : overlong k ≡ false) (x : k.Form) where
-  pub fits_length : frame_length k x ≡ length (k.encoding x)
-  fits_length = cond-false (overlong k) _ _ h
+-- a frame is written over the last bytes, which have room for each of its kind
+module _ (k : Kind) (laws : Laws k) (fits : overlong k ≡ false) (x : k.Form) (bytes front rest : List ℕ) (at : ℕ) (e : bytes ≡ front ++ rest) (long : length front ≡ at) (room : k.greatest ≤ length rest) where
+  last_part : between at (length bytes) bytes ≡ rest
+  last_part = take_rest bytes at ∙ ap (drop at) e ∙ drop_at front rest at long
 
-  module _ (out : List ℕ) where
-    pub room_after : length (k.encoding x) ≤ length out → k.encoding x ++ drop (length (k.encoding x)) out ≡ encode_after k x out
-    room_after le = over_so (k.encoding x) out le ∙ sym (cond-false (overlong k) _ _ h)
+  pub last_length : (n : ℕ) → Ok n ≡ encode_answer k x (length (between at (length bytes) bytes)) → n ≡ length (k.encoding x)
+  last_length n n_is = ap ok_or (n_is ∙ ap (λ (part : List ℕ). encode_answer k x (length part)) last_part ∙ encode_ok k laws fits x rest room)
+    where
+      ok_or : Result ℕ EncodeFault → ℕ
+      ok_or (Ok n) = n
+      ok_or (Err e) = 0
 
-    -- bytes of the encoding's length are filled by it
-    pub filled : length out ≡ length (k.encoding x) → encode_after k x out ≡ k.encoding x
-    filled e = sym (room_after (omega arith)) ∙ ap (λ (l : List ℕ). k.encoding x ++ l) (drop_all (length (k.encoding x)) out (omega arith)) ∙ append-nil (k.encoding x)
+  pub last_written : (part : List ℕ) → part ≡ encode_after k x (between at (length bytes) bytes) → put_mid at (length bytes - at) bytes part ≡ (front ++ k.encoding x) ++ drop (length (k.encoding x)) rest
+  last_written part part_is =
+      ap (λ (l : List ℕ). take at bytes ++ (part ++ l)) (drop_all (length bytes - at) (drop at bytes) (omega (arith, length-drop at bytes)))
+      ∙ ap (λ (l : List ℕ). take at bytes ++ l) (append-nil part)
+      ∙ ap (λ (l : List ℕ). l ++ part) (ap (take at) e ∙ take_at front rest at long)
+      ∙ ap (λ (l : List ℕ). front ++ l) (part_is ∙ ap (encode_after k x) last_part ∙ encode_over k laws fits x rest room)
+      ∙ sym (append_assoc front (k.encoding x) (drop (length (k.encoding x)) rest))
 
 -- what two readings tell, one after the other
 pub then_tells : {X Y : Type 0} (P : X → Type 0) (Q : Y → Type 0) (F : DecodeFault → Type 0) (r : Result X DecodeFault) (next : X → Result Y DecodeFault) → MatchResult r P F → ((x : X) → P x → MatchResult (next x) Q F) → MatchResult (then_read r next) Q F

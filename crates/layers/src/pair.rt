@@ -1,13 +1,14 @@
-ghost use Rattle.std.specs.Prelude.{◌≡◌, ◌+◌, ◌≤◌, refl, length, IfOk, Ok, Err, MatchResult};
+ghost use Rattle.std.specs.Prelude.{◌≡◌, ◌+◌, ◌≤◌, false, refl, length, IfOk, Ok, Err, MatchResult};
 ghost use Rattle.std.specs.List.{between};
+ghost use Rattle.synopsis.specs.Kind.{overlong, over};
 ghost use Rattle.layers.specs.Parts.{read_part};
-ghost use Rattle.layers.specs.Pairs.{pair_kind, pair_head, second_offset};
+ghost use Rattle.layers.specs.Pairs.{pair_kind, pair_bytes, pair_head, second_offset};
 ghost use Rattle.layers.specs.PairsLemmas.{pair_laws};
 
 use frames::header::{Header, header_bytes, read_header};
 use readings::Reading;
 use synopsis::fault::{DecodeFault, EncodeFault, Reason};
-use synopsis::kind::{OVERLONG, Synopsis};
+use synopsis::kind::{LONGEST, OVERLONG, Synopsis};
 
 // Also the trait's constant below, of which a proof over any two kinds knows nothing.
 const NUMBER: u8 = 5;
@@ -44,17 +45,21 @@ fn second_offset(frame: &[u8]) -> Result<usize, DecodeFault>
     Ok(offset)
 }
 
-// The synopsis that a part of a frame encodes; a fault's place counts from the start of the frame.
-fn decode_part<S: Synopsis>(frame: &[u8], from: usize, to: usize) -> Result<S, DecodeFault>
+// Gives a side the form that a part of a frame encodes; a fault's place counts from the start of the frame, and then the side
+// stays.
+fn decode_part<S: Synopsis>(
+    side: &mut S,
+    frame: &[u8],
+    from: usize,
+    to: usize,
+) -> Result<(), DecodeFault>
     requires { (from ≤ to) × (to ≤ length frame.now) }
-    ensures { MatchResult result (λ s. (read_part S.Synopsis.kind from to frame.now ≡ Ok (S.Synopsis.form s)) × (S.Synopsis.kind.encoding (S.Synopsis.form s) ≡ between from to frame.now)) (λ e. read_part S.Synopsis.kind from to frame.now ≡ Err e) }
+    ensures { MatchResult result (λ _. (read_part S.Synopsis.kind from to frame.now ≡ Ok (S.Synopsis.form side.new)) × (S.Synopsis.kind.encoding (S.Synopsis.form side.new) ≡ between from to frame.now)) (λ e. (read_part S.Synopsis.kind from to frame.now ≡ Err e) × (side.new ≡ side.old)) }
 {
-    let mut part = S::empty();
-    part.decode(&frame[from..to]).map_err(|fault| DecodeFault {
+    side.decode(&frame[from..to]).map_err(|fault| DecodeFault {
         place: from + fault.place,
         ..fault
-    })?;
-    Ok(part)
+    })
 }
 
 // What stands before the first side: the header, and the offset of the second side.
@@ -64,6 +69,23 @@ fn head_bytes(offset: u16, end: u16) -> [u8; 6]
     let [kind, count, end_high, end_low] = header_bytes(NUMBER, Header { count: 2, end });
     let [high, low] = offset.to_be_bytes();
     [kind, count, end_high, end_low, high, low]
+}
+
+// Writes the frame of two sides at the front of `out`, which has room for the longest one, and answers its length in bytes. The
+// head comes last, since it says how long the sides are.
+fn encode_sides<A: Synopsis, B: Synopsis>(
+    first: &A,
+    second: &B,
+    out: &mut [u8],
+) -> Result<usize, EncodeFault>
+    requires { (overlong (pair_kind A.Synopsis.kind B.Synopsis.kind) ≡ false) × ((pair_kind A.Synopsis.kind B.Synopsis.kind).greatest ≤ length out.old) }
+    ensures answer { result ≡ Ok (length (pair_bytes (A.Synopsis.kind.encoding (A.Synopsis.form first.now)) (B.Synopsis.kind.encoding (B.Synopsis.form second.now)))) }
+    ensures after { out.new ≡ over (pair_bytes (A.Synopsis.kind.encoding (A.Synopsis.form first.now)) (B.Synopsis.kind.encoding (B.Synopsis.form second.now))) out.old }
+{
+    let offset = FIRST + first.encode(&mut out[FIRST..])?;
+    let end = offset + second.encode(&mut out[offset..])?;
+    out[0..FIRST].copy_from_slice(&head_bytes(offset as u16, end as u16));
+    Ok(end)
 }
 
 impl<A: Synopsis, B: Synopsis> Synopsis for Pair<A, B> {
@@ -118,15 +140,17 @@ impl<A: Synopsis, B: Synopsis> Synopsis for Pair<A, B> {
         if Self::is_overlong() {
             return Err(EncodeFault::Overlong);
         }
-        let offset = FIRST + self.first.length();
-        let end = offset + self.second.length();
-        if out.len() < end {
+        if out.len() >= Self::greatest_length() {
+            return encode_sides(&self.first, &self.second, out);
+        }
+        // Less room may still do: the frame is made elsewhere, and copied if it fits.
+        let mut frame = [0; LONGEST];
+        let length = encode_sides(&self.first, &self.second, &mut frame)?;
+        if out.len() < length {
             return Err(EncodeFault::Room);
         }
-        out[0..FIRST].copy_from_slice(&head_bytes(offset as u16, end as u16));
-        self.first.encode(&mut out[FIRST..offset])?;
-        self.second.encode(&mut out[offset..end])?;
-        Ok(end)
+        out[..length].copy_from_slice(&frame[..length]);
+        Ok(length)
     }
 
     fn decode(&mut self, frame: &[u8]) -> Result<(), DecodeFault> {
@@ -134,10 +158,10 @@ impl<A: Synopsis, B: Synopsis> Synopsis for Pair<A, B> {
             return Err(DecodeFault::new(Reason::Overlong, 0, NUMBER));
         }
         let offset = second_offset(frame)?;
-        let first = decode_part(frame, FIRST, offset)?;
-        let second = decode_part(frame, offset, frame.len())?;
+        let mut first = A::empty();
+        decode_part(&mut first, frame, FIRST, offset)?;
+        decode_part(&mut self.second, frame, offset, frame.len())?;
         self.first = first;
-        self.second = second;
         Ok(())
     }
 }

@@ -2,9 +2,9 @@ ghost use Rattle.std.specs.Prelude.{◌≡◌, refl};
 ghost use Rattle.least.specs.Least.{least_kind, least_form, estimate_of};
 ghost use Rattle.least.specs.Forms.{least_laws};
 
-use crate::row::{LeastRun, LeastValues};
+use crate::row::LeastValues;
 use readings::Reading;
-use records::frame::{decode_row, encode_run, run_length};
+use records::frame::{decode_row, encode_row, row_length};
 use runs::row::Row;
 use synopsis::fault::{DecodeFault, EncodeFault};
 use synopsis::kind::Synopsis;
@@ -18,8 +18,7 @@ impl LeastValues {
     pub fn estimate(&self) -> u64
         ensures { result ≡ estimate_of (least_form self.now).items }
     {
-        let run = LeastRun::of(&self.row);
-        let values = run.as_slice();
+        let values = self.row.items();
         if values.len() < 64 {
             return values.len() as u64;
         }
@@ -55,15 +54,19 @@ impl Synopsis for LeastValues {
     }
 
     fn fuse(&mut self, other: &Self) {
-        self.row = LeastRun::of_both(&self.row, &other.row).row;
+        self.row.join(&other.row, [0; 64], [0; 64]);
+    }
+
+    fn add(&mut self, reading: Reading) {
+        self.row.add(reading.hash());
     }
 
     fn length(&self) -> usize {
-        run_length(&LeastRun::of(&self.row))
+        row_length(&self.row)
     }
 
     fn encode(&self, out: &mut [u8]) -> Result<usize, EncodeFault> {
-        encode_run(Self::NUMBER, &LeastRun::of(&self.row), out)
+        encode_row(Self::NUMBER, &self.row, out)
     }
 
     fn decode(&mut self, frame: &[u8]) -> Result<(), DecodeFault> {

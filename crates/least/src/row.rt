@@ -1,4 +1,4 @@
-use runs::row::{Row, Run};
+use runs::row::Row;
 
 /// Least values: a plain row of the least hash values seen, 64 at most (k-least values, after Bar-Yossef and others 2002). A
 /// row that is no run stands for the empty one, and every call reads it so.
@@ -7,6 +7,3 @@ pub struct LeastValues {
     /// the hash values, rising, and 0 in unused places
     pub row: Row<u64, 64>,
 }
-
-/// A row that passed the check: its values rise strictly, and its unused places are 0.
-pub type LeastRun = Run<u64, 64>;

@@ -1,12 +1,12 @@
 ghost use Rattle.std.specs.Prelude.{◌≡◌, ◌≤◌, true, false, T, length, take, drop, Ok, Err, MatchOption, MatchResult};
-ghost use Rattle.runs.specs.Runs.{rising, as_run, counts, form_of};
+ghost use Rattle.runs.specs.Runs.{rising, as_run, form_of};
 ghost use Rattle.records.specs.RecordFrames.{end_of, fits_frame, frame_of, records_length, records_answer, records_after, read_records, placed_over, Placed};
 ghost use Rattle.records.specs.RunKind.{read_frame};
 
 use crate::record::{Record, get_all, put_all};
 use frames::header::{Header, header_bytes, read_header};
 use runs::element::Fresh;
-use runs::row::{Row, Run};
+use runs::row::Row;
 use runs::run::fall;
 use synopsis::fault::{DecodeFault, EncodeFault, Reason};
 use synopsis::kind::OVERLONG;
@@ -53,23 +53,23 @@ pub fn encode_records<E: Record>(
     Ok(end)
 }
 
-/// The length in bytes of the frame of a run; 2,049 where its records do not fit into one frame.
-pub fn run_length<E: Record, const N: usize>(run: &Run<E, N>) -> usize
-    ensures { result ≡ records_length E.Record.layout (length (counts run.now.row)) }
+/// The length in bytes of the frame of the run that a row stands for; 2,049 where its records do not fit into one frame.
+pub fn row_length<E: Record, const N: usize>(row: &Row<E, N>) -> usize
+    ensures { result ≡ records_length E.Record.layout (length (form_of E.Ord.cmp E.Element.blank row.now).items) }
 {
-    records_length(run.as_slice())
+    records_length(row.items())
 }
 
-/// Writes the frame of a kind with the records of a run, as `encode_records` does.
-pub fn encode_run<E: Record, const N: usize>(
+/// Writes the frame of a kind with the records of the run that a row stands for, as `encode_records` does.
+pub fn encode_row<E: Record, const N: usize>(
     kind: u8,
-    run: &Run<E, N>,
+    row: &Row<E, N>,
     out: &mut [u8],
 ) -> Result<usize, EncodeFault>
-    ensures answer { result ≡ records_answer kind E.Record.layout (counts run.now.row) (length out.old) }
-    ensures after { out.new ≡ records_after kind E.Record.layout (counts run.now.row) out.old }
+    ensures answer { result ≡ records_answer kind E.Record.layout (form_of E.Ord.cmp E.Element.blank row.now).items (length out.old) }
+    ensures after { out.new ≡ records_after kind E.Record.layout (form_of E.Ord.cmp E.Element.blank row.now).items out.old }
 {
-    encode_records(kind, run.as_slice(), out)
+    encode_records(kind, row.items(), out)
 }
 
 /// Reads a frame of a kind with at least `fewest` records into the front of `out`, which has a place for each of its most

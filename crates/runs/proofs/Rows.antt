@@ -4,7 +4,7 @@ use mathlib.Core.Bool.{true≢false}
 use borrow.Author.Tests.{lt-ltb}
 use Rattle.std.specs.List.{list_all, IsSplitAt}
 use Rattle.std.proofs.lemmas.List.{length-take, drop-replicate}
-use Rattle.std.proofs.lemmas.Bool.{le-leb, and_left, and_right, cond-true}
+use Rattle.std.proofs.lemmas.Bool.{le-leb, and_left, and_right, cond-true, cond-false}
 use Rattle.runs.specs.Runs.{rising, first_fall, is_run, Run, as_run, is_run_row, row_items, row_form}
 use Rattle.runs.specs.Union.{union_of, joined_runs}
 use Rattle.runs.proofs.Rising.{both, left, right, true_from, holds_from}
@@ -38,6 +38,20 @@ module _ {E : Type 0} (order : E → E → Ordering) (blank : E → Bool) (count
         let g : leb count (length places) ≡ true = le-leb count (length places) cut.0 in
         q ∙ ap (list_all blank) cut.2
         ∙ sym (ap (λ (b : Bool). b && (rising order (take count places) && list_all blank (drop count places))) g ∙ ap (λ (b : Bool). b && list_all blank (drop count places)) (rises false e))
+
+    -- whether it is kept, by the two
+    row_split : is_run_row order blank count places ≡ (rising order front && list_all blank rest)
+    row_split =
+        let g : leb count (length places) ≡ true = le-leb count (length places) cut.0 in
+        ap (λ (b : Bool). b && (rising order (take count places) && list_all blank (drop count places))) g
+        ∙ ap (λ (l : List E). rising order l && list_all blank (drop count places)) (sym cut.1)
+        ∙ ap (λ (l : List E). rising order front && list_all blank l) (sym cut.2)
+
+    pub split_items : (rising order front && list_all blank rest) ≡ true → front ≡ row_items order blank count places
+    split_items e = cut.1 ∙ sym (cond-true (is_run_row order blank count places) (take count places) [] (row_split ∙ e))
+
+    pub split_none : (rising order front && list_all blank rest) ≡ false → [] ≡ row_items order blank count places
+    split_none e = sym (cond-false (is_run_row order blank count places) (take count places) [] (row_split ∙ e))
 
   -- what a row stands for is a run of at most so many elements as it has places
   pub row_is_run : T (is_run order (length places) (row_items order blank count places))
@@ -76,7 +90,7 @@ empty_form order blank k places = ap (as_run order k) (by (is_run_row order blan
 module _ {E : Type 0} (order : E → E → Ordering) (blank : E → Bool) (k count : ℕ) (places : List E) where
   -- a row with k places stands for all that it counts, or for nothing
   module _ (long : length places ≡ k) where
-    form_items : (row_form order blank k count places).items ≡ row_items order blank count places
+    pub form_items : (row_form order blank k count places).items ≡ row_items order blank count places
     form_items =
         let items = row_items order blank count places in
         run_items order k items (subst (λ (n : ℕ). T (is_run order n items)) long (row_is_run order blank count places))

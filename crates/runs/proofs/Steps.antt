@@ -1,6 +1,13 @@
--- What a merge has written once it ends.
-use Rattle.std.proofs.Common.{◌≡◌, ℕ, ◌≤◌, List, [], ◌++◌, length, take, sym, ap, ◌∙◌, arith}
+-- What a merge gives next, and what it has written once it ends.
+use Rattle.std.proofs.Common.{◌≡◌, ℕ, zero, suc, ◌+◌, ◌-◌, ◌≤◌, ◌<◌, List, [], ◌∷◌, ◌++◌, length, take, drop, set, get_or, Ordering, refl, sym, ap, ◌∙◌, arith}
 use Rattle.std.proofs.lemmas.List.{append-nil, length-take-le, take_at, take_all}
+use Rattle.runs.specs.Union.{merge}
+
+-- with nothing on the right, all of the left
+module _ {E : Type 0} (order : E → E → Ordering) where
+  pub merge_none : (xs : List E) → merge order xs [] ≡ xs
+  merge_none [] = refl
+  merge_none (x ∷ xs) = refl
 
 -- all is written: the places are full, or nothing is left
 module _ {E : Type 0} (out all left : List E) (n k : ℕ) (within : n ≤ length out) (e : take n out ++ left ≡ all) (long : length out ≡ k) where

@@ -83,7 +83,7 @@ module _ {E : Type 0} (order : E → E → Ordering) (laws : Lawful order) where
   take_rises (suc n) [] h = tt
   take_rises (suc n) (x ∷ xs) h = take_rises_from x n xs h
 
-  from_take : (n : ℕ) (xs : List E) (z : E) → Among z (take n xs) → Among z xs
+  pub from_take : (n : ℕ) (xs : List E) (z : E) → Among z (take n xs) → Among z xs
   from_take zero xs z m = absurd m
   from_take (suc n) [] z m = absurd m
   from_take (suc n) (x ∷ xs) z m = ⊎_elim (λ q. inl q) (λ k. inr (from_take n xs z k)) m
@@ -109,10 +109,10 @@ module _ {E : Type 0} (order : E → E → Ordering) (laws : Lawful order) where
       }
 
   -- a run of its own elements
-  own : (k : ℕ) (P : E → Type 0) (xs : List E) → T (rising order xs) → length xs ≤ k → ((x : E) → P x → Among x xs) → ((x : E) → Among x xs → P x) → Least order k P xs
+  pub own : (k : ℕ) (P : E → Type 0) (xs : List E) → T (rising order xs) → length xs ≤ k → ((x : E) → P x → Among x xs) → ((x : E) → Among x xs → P x) → Least order k P xs
   own k P xs h le there back = record { rises = h; few = le; found = back; least = λ x p. inl (there x p) }
 
-  like : (k : ℕ) (P Q : E → Type 0) (rs : List E) → ((x : E) → P x → Q x) → ((x : E) → Q x → P x) → Least order k P rs → Least order k Q rs
+  pub like : (k : ℕ) (P Q : E → Type 0) (rs : List E) → ((x : E) → P x → Q x) → ((x : E) → Q x → P x) → Least order k P rs → Least order k Q rs
   like k P Q rs pq qp a = record { rises = a.rises; few = a.few; found = λ x m. pq x (a.found x m); least = λ x q. a.least x (qp x q) }
 
   -- of each element: the first fact of all, or the second of one
@@ -125,7 +125,7 @@ module _ {E : Type 0} (order : E → E → Ordering) (laws : Lawful order) where
       (h y (inl refl))
 
   -- the k least of the k least of P and of Q are the k least of both
-  widen : (k : ℕ) (P Q : E → Type 0) (rs ts : List E) → Least order k P rs → Least order k (λ x. Among x rs ⊎ Q x) ts → Least order k (λ x. P x ⊎ Q x) ts
+  pub widen : (k : ℕ) (P Q : E → Type 0) (rs ts : List E) → Least order k P rs → Least order k (λ x. Among x rs ⊎ Q x) ts → Least order k (λ x. P x ⊎ Q x) ts
   widen k P Q rs ts a b = record {
     rises = b.rises;
     few = b.few;

@@ -1,6 +1,9 @@
-ghost use Rattle.std.specs.Prelude.{Bool, T, ◌==◌, ◌≡◌};
+ghost use Rattle.std.specs.Prelude.{ℕ, Bool, T, ◌==◌, ◌≡◌, ◌<◌, ◌≤◌, map, length};
+ghost use Rattle.std.specs.declared.cmp.Ordering.TheVariants.{Less};
 ghost use Rattle.runs.specs.Order.{Lawful};
 ghost use Rattle.std.proofs.Common.{rules};
+
+use std::cmp::Ordering;
 
 /// An element of a run. Elements that are equal by the order are the same, and a single value stands in unused places.
 pub trait Element: Ord + Copy {
@@ -10,6 +13,26 @@ pub trait Element: Ord + Copy {
     /// Whether the element is the one that stands in unused places.
     fn is_blank(self) -> bool
         ensures { result ≡ blank self };
+
+    // the number by which elements are ordered first
+    ghost key: { Self → ℕ };
+
+    /// The number by which elements are ordered first: an element with a lesser key is less.
+    fn key(self) -> u64
+        ensures { result ≡ key self };
+
+    /// The keys of elements, for which room is lent; elements that are their own keys need none.
+    fn keys<'a>(items: &'a [Self], room: &'a mut [u64]) -> &'a [u64]
+        ensures { length items.now ≤ length room.old → result.now ≡ map key items.now }
+    {
+        let count = items.len().min(room.len());
+        for (i, x) in items[0..count].iter().enumerate() {
+            room[i] = x.key();
+        }
+        &room[0..count]
+    }
+
+    ghost keyed: { (x y : Self) → key x < key y → Self.cmp x y ≡ Less };
 
     ghost lawful: { Lawful Self.cmp };
 
@@ -21,9 +44,26 @@ pub trait Fresh: Element + Default {
     ghost fresh: { (x : Self) → Self.is_default x → T (Self.blank x) };
 }
 
+// The order of two elements beside their keys, which tell it where they differ.
+pub(crate) fn order_by<E: Element>(x: E, x_key: u64, y: E, y_key: u64) -> Ordering
+    requires first { x_key ≡ E.Element.key x }
+    requires second { y_key ≡ E.Element.key y }
+    ensures { result ≡ E.Ord.cmp x y }
+{
+    match x_key.cmp(&y_key) {
+        Ordering::Equal if x == y => Ordering::Equal,
+        Ordering::Equal => x.cmp(&y),
+        order => order,
+    }
+}
+
 // Numbers of 64 bits, as hash values are: 0 where unused.
 impl Element for u64 {
     ghost blank = { λ x. (x == 0) };
+
+    ghost key = { λ x. x };
+
+    ghost keyed = { Prim.search rules };
 
     ghost lawful = { Prim.search rules };
 
@@ -31,6 +71,14 @@ impl Element for u64 {
 
     fn is_blank(self) -> bool {
         self == 0
+    }
+
+    fn key(self) -> u64 {
+        self
+    }
+
+    fn keys<'a>(items: &'a [u64], _room: &'a mut [u64]) -> &'a [u64] {
+        items
     }
 }
 

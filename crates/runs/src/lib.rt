@@ -2,6 +2,8 @@
 #![tactic(auto)]
 
 pub mod element;
+pub mod keyed;
+mod place;
 pub mod row;
 pub mod run;
 pub mod union;

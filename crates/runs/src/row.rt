@@ -1,11 +1,12 @@
-ghost use Rattle.std.specs.Prelude.{◌≡◌, ℕ, ⊤, false, T, [], ◌∷◌, length, MatchOption};
+ghost use Rattle.std.specs.Prelude.{◌≡◌, ◌≤◌, T, [], ◌∷◌, length};
 ghost use Rattle.runs.specs.Runs.{as_run, keeps, counts, form_of};
-ghost use Rattle.runs.specs.Union.{union_of, joined_runs};
+ghost use Rattle.runs.specs.Union.{joined_runs};
 
 use crate::element::{Element, Fresh};
-use crate::run::is_run_row;
-use crate::union::union;
-use std::alloc::AllocError;
+use crate::keyed::Keyed;
+use crate::place::{place_for, put_at};
+use crate::run::{all_blank, is_run_row};
+use crate::union::{entering, holds_all, union};
 
 /// A plain row of places. Nothing is known of it: a row that is no run stands for the empty run.
 #[derive(Clone, Copy, PartialEq, Eq, Debug)]
@@ -16,22 +17,32 @@ pub struct Row<E, const N: usize> {
     pub places: [E; N],
 }
 
-/// A row that passed the check: its elements rise strictly, and its other places are unused.
-pub struct Run<E: Element, const N: usize> {
-    /// the row, in which nothing may be changed that breaks the check
-    pub row: Row<E, N>,
-    ghost kept: { T (keeps E.Ord.cmp E.Element.blank row) },
-}
+impl<E: Element, const N: usize> Row<E, N> {
+    /// The elements of the run that the row stands for, rising: none where the row fails the check.
+    pub fn items(&self) -> &[E]
+        ensures { result.now ≡ (form_of E.Ord.cmp E.Element.blank self.now).items }
+    {
+        if !is_run_row(self.count, &self.places) {
+            return &[];
+        }
+        let places = &self.places[..];
+        &places[0..self.count]
+    }
 
-impl<E: Element, const N: usize> Copy for Run<E, N> {}
-
-impl<E: Element, const N: usize> Clone for Run<E, N> {
-    ghost is_clone = { λ x y. y ≡ x };
-
-    ghost is_infallible = { λ _. ⊤ };
-
-    fn clone(&self) -> Result<Run<E, N>, AllocError> {
-        Ok(*self)
+    // The same beside their keys, for which room is lent.
+    fn keyed<'a>(&'a self, room: &'a mut [u64]) -> Keyed<'a, E>
+        requires { N ≤ length room.old }
+        ensures { result.items.now ≡ (form_of E.Ord.cmp E.Element.blank self.now).items }
+    {
+        let places = &self.places[..];
+        let Some((front, rest)) = places.split_at_checked(self.count) else {
+            return Keyed::none();
+        };
+        let run = Keyed::of(front, room);
+        if run.rises() && all_blank(rest) {
+            return run;
+        }
+        Keyed::none()
     }
 }
 
@@ -61,52 +72,38 @@ impl<E: Fresh, const N: usize> Row<E, N> {
             None => Row { count: 0, places },
         }
     }
-}
 
-impl<E: Element, const N: usize> Run<E, N> {
-    /// The run that a plain row is; none where it fails the check.
-    pub fn checked(row: &Row<E, N>) -> Option<Run<E, N>>
-        ensures cases { MatchOption result (keeps E.Ord.cmp E.Element.blank row.now ≡ false) (λ t. t.row ≡ row.now) }
-        ensures long { length row.now.places ≡ N }
+    /// Joins one element to the run that the row stands for, as the N-union with the run of it. The row stays as it is where
+    /// that changes nothing.
+    pub fn add(&mut self, item: E)
+        ensures { form_of E.Ord.cmp E.Element.blank self.new ≡ joined_runs E.Ord.cmp N (form_of E.Ord.cmp E.Element.blank self.old) (as_run E.Ord.cmp N (item ∷ [])) }
     {
-        if !is_run_row(row.count, &row.places) {
-            return None;
+        let run = self.items();
+        let count = run.len();
+        if count == 0 {
+            *self = Row::single(item);
+            return;
         }
-        Some(Run { row: *row })
+        if let Some(at) = place_for(run, N, item) {
+            self.count = put_at(&mut self.places, count, at, item);
+        }
     }
 
-    /// The elements of the run, rising.
-    pub fn as_slice(&self) -> &[E]
-        ensures { result.now ≡ counts self.now.row }
+    /// Joins the run that another row stands for to that of this one, as their N-union: the N least elements found in either, or
+    /// all where there are fewer. The row stays as it is where that changes nothing. The last two are room for the keys of both.
+    pub fn join(&mut self, other: &Row<E, N>, room: [u64; N], other_room: [u64; N])
+        ensures { form_of E.Ord.cmp E.Element.blank self.new ≡ joined_runs E.Ord.cmp N (form_of E.Ord.cmp E.Element.blank self.old) (form_of E.Ord.cmp E.Element.blank other.now) }
     {
-        let places = &self.row.places[..];
-        &places[0..self.row.count]
-    }
-}
-
-impl<E: Fresh, const N: usize> Run<E, N> {
-    /// The run that a plain row stands for: the empty one where the row fails the check.
-    pub fn of(row: &Row<E, N>) -> Run<E, N>
-        ensures { counts result.row ≡ (form_of E.Ord.cmp E.Element.blank row.now).items }
-    {
-        Run::checked(row).unwrap_or(Run { row: Row::empty() })
-    }
-
-    /// The N-union of two runs: the N least elements found in either, or all where there are fewer.
-    pub fn joined(&self, other: &Run<E, N>) -> Run<E, N>
-        ensures { counts result.row ≡ union_of E.Ord.cmp N (counts self.now.row) (counts other.now.row) }
-    {
+        let mut room = room;
+        let mut other_room = other_room;
+        let run = self.keyed(&mut room);
+        let all = other.keyed(&mut other_room);
+        let others = all.first(entering(&run, N, &all));
+        if holds_all(&run, &others) {
+            return;
+        }
         let mut places = [E::default(); N];
-        let count = union(self.as_slice(), other.as_slice(), &mut places);
-        Run {
-            row: Row { count, places },
-        }
-    }
-
-    /// The N-union of the runs that two plain rows stand for.
-    pub fn of_both(one: &Row<E, N>, other: &Row<E, N>) -> Run<E, N>
-        ensures { form_of E.Ord.cmp E.Element.blank result.row ≡ joined_runs E.Ord.cmp N (form_of E.Ord.cmp E.Element.blank one.now) (form_of E.Ord.cmp E.Element.blank other.now) }
-    {
-        Run::of(one).joined(&Run::of(other))
+        self.count = union(&run, &others, &mut places);
+        self.places = places;
     }
 }

@@ -2,18 +2,22 @@ ghost use Rattle.std.specs.Prelude.{◌≡◌};
 ghost use Rattle.runs.specs.Runs.{first_fall, is_run_row};
 ghost use Rattle.std.specs.List.{list_all};
 
-use crate::element::Element;
+use crate::element::{Element, order_by};
 
 /// The place of the first element that is not greater than its predecessor; none in a run.
 pub fn fall<E: Element>(items: &[E]) -> Option<usize>
     ensures { result ≡ first_fall E.Ord.cmp items.now }
 {
-    let (mut last, rest) = items.split_first()?;
+    let (first, rest) = items.split_first()?;
+    let mut last = *first;
+    let mut key = last.key();
     for (i, x) in rest.iter().enumerate() {
-        if last >= x {
+        let next = x.key();
+        if order_by(last, key, *x, next).is_ge() {
             return Some(i + 1);
         }
-        last = x;
+        last = *x;
+        key = next;
     }
     None
 }

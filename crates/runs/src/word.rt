@@ -7,11 +7,19 @@ use crate::element::Element;
 impl Element for u32 {
     ghost blank = { λ x. (x == 0) };
 
+    ghost key = { λ x. x };
+
+    ghost keyed = { Prim.search rules };
+
     ghost lawful = { Prim.search rules };
 
     ghost one_blank = { Prim.search rules };
 
     fn is_blank(self) -> bool {
         self == 0
+    }
+
+    fn key(self) -> u64 {
+        u64::from(self)
     }
 }

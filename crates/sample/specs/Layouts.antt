@@ -1,5 +1,6 @@
 -- Records of a sample are told apart by their key, and read back as they were written.
 use Rattle.std.specs.Prelude.{◌≡◌, ℕ, ◌<◌, Bool, true, ◌&&◌, ◌==◌, T, List, ◌++◌, take, drop}
+use Rattle.std.specs.declared.cmp.Ordering.TheVariants.{Less}
 use Rattle.std.proofs.Common.{refl, sym, ap, ◌∙◌, arith}
 use Rattle.std.proofs.lemmas.List.{length-append, length-drop, length-take-le, drop-drop, take-append-drop}
 use Rattle.std.proofs.lemmas.List.Elements.{All-take, All-drop}
@@ -13,7 +14,7 @@ use Rattle.frames.proofs.Numbers.{from_in_bytes, length_in}
 use Rattle.records.specs.Records.{Readable}
 use Rattle.records.specs.Layouts.{numbers_readable}
 use Rattle.sample.specs.declared.record.SampleRecord.{SampleRecord}
-use Rattle.sample.specs.Records.{sample_key, by_hash, unused, sample_layout}
+use Rattle.sample.specs.Records.{hash_key, sample_key, by_hash, unused, sample_layout}
 
 -- equal in all parts
 pub same_record : (x y : SampleRecord) → x.item ≡ y.item → x.tenant ≡ y.tenant → x.amount ≡ y.amount → x ≡ y
@@ -36,6 +37,9 @@ one_unused x y t u =
 
 pub hash_lawful : Lawful by_hash
 hash_lawful = key_lawful sample_key key_apart
+
+pub hash_keyed : (x y : SampleRecord) → hash_key x < hash_key y → by_hash x y ≡ Less
+hash_keyed x y lt = grind (arith, nat_tests)
 
 -- the order as the library's: total, beside its partial form, and equal exactly where records are
 pub hash_total : IsTotalOrder by_hash

@@ -16,6 +16,10 @@ record_of r = record { item = r.item; tenant = r.tenant; amount = r.amount }
 abbrev pub reading_of : SampleRecord → Reading
 reading_of x = record { tenant = x.tenant; item = x.item; amount = x.amount }
 
+-- the hash of the reading that a record keeps, by which records are ordered first
+abbrev pub hash_key : SampleRecord → ℕ
+hash_key x = hash_of (reading_of x)
+
 -- what two records are compared by, one number after another
 abbrev pub sample_key : SampleRecord → List ℕ
 sample_key x = hash_of (reading_of x) ∷ x.item ∷ x.tenant ∷ x.amount ∷ []

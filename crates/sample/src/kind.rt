@@ -3,9 +3,9 @@ ghost use Rattle.sample.specs.Sample.{sample_kind, sample_form};
 ghost use Rattle.sample.specs.Forms.{sample_laws};
 
 use crate::record::SampleRecord;
-use crate::row::{Sample, SampleRun};
+use crate::row::Sample;
 use readings::Reading;
-use records::frame::{decode_row, encode_run, run_length};
+use records::frame::{decode_row, encode_row, row_length};
 use runs::row::Row;
 use synopsis::fault::{DecodeFault, EncodeFault};
 use synopsis::kind::Synopsis;
@@ -38,15 +38,19 @@ impl Synopsis for Sample {
     }
 
     fn fuse(&mut self, other: &Self) {
-        self.row = SampleRun::of_both(&self.row, &other.row).row;
+        self.row.join(&other.row, [0; 32], [0; 32]);
+    }
+
+    fn add(&mut self, reading: Reading) {
+        self.row.add(SampleRecord::from(reading));
     }
 
     fn length(&self) -> usize {
-        run_length(&SampleRun::of(&self.row))
+        row_length(&self.row)
     }
 
     fn encode(&self, out: &mut [u8]) -> Result<usize, EncodeFault> {
-        encode_run(Self::NUMBER, &SampleRun::of(&self.row), out)
+        encode_row(Self::NUMBER, &self.row, out)
     }
 
     fn decode(&mut self, frame: &[u8]) -> Result<(), DecodeFault> {

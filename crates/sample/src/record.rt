@@ -1,7 +1,7 @@
 ghost use Rattle.std.specs.Prelude.{◌≡◌};
 ghost use Rattle.readings.specs.Readings.{hash_of};
-ghost use Rattle.sample.specs.Records.{record_of, reading_of, by_hash, unused, sample_layout};
-ghost use Rattle.sample.specs.Layouts.{hash_lawful, one_unused, hash_total, hash_agrees, hash_matches, hash_partial, sample_readable};
+ghost use Rattle.sample.specs.Records.{record_of, reading_of, hash_key, by_hash, unused, sample_layout};
+ghost use Rattle.sample.specs.Layouts.{hash_lawful, hash_keyed, one_unused, hash_total, hash_agrees, hash_matches, hash_partial, sample_readable};
 ghost use Rattle.std.specs.Ordering.{as_partial_cmp};
 ghost use Rattle.std.proofs.Common.{rules};
 
@@ -59,7 +59,7 @@ impl SampleRecord {
     }
 
     // What records are compared by, one part after another.
-    fn key(self) -> (u64, u64, u32, u64)
+    fn parts(self) -> (u64, u64, u32, u64)
         ensures { result ≡ (hash_of (reading_of self), self.item, self.tenant, self.amount) }
     {
         (self.hash(), self.item, self.tenant, self.amount)
@@ -77,7 +77,7 @@ impl Ord for SampleRecord {
     ghost matches_eq = { hash_matches };
 
     fn cmp(&self, other: &SampleRecord) -> Ordering {
-        self.key().cmp(&other.key())
+        self.parts().cmp(&other.parts())
     }
 }
 
@@ -95,12 +95,20 @@ impl PartialOrd for SampleRecord {
 impl Element for SampleRecord {
     ghost blank = { unused };
 
+    ghost key = { hash_key };
+
+    ghost keyed = { hash_keyed };
+
     ghost lawful = { hash_lawful };
 
     ghost one_blank = { one_unused };
 
     fn is_blank(self) -> bool {
         self == SampleRecord::default()
+    }
+
+    fn key(self) -> u64 {
+        self.hash()
     }
 }
 

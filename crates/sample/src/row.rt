@@ -1,5 +1,5 @@
 use crate::record::SampleRecord;
-use runs::row::{Row, Run};
+use runs::row::Row;
 
 /// A sample: a plain row of the readings that come first in the order of their hashes, 32 at most (a coordinated sample, after
 /// Cohen and Kaplan 2007). A row that is no run stands for the empty one, and every call reads it so.
@@ -8,6 +8,3 @@ pub struct Sample {
     /// the records, rising, and zeros in unused places
     pub row: Row<SampleRecord, 32>,
 }
-
-/// A row that passed the check: its records rise strictly, and its unused places are zeros.
-pub type SampleRun = Run<SampleRecord, 32>;

@@ -5,6 +5,7 @@ use bitmaps::maps::Bitmaps;
 use layers::pair::Pair;
 use least::row::LeastValues;
 use readings::Reading;
+use records::record::Record;
 use runs::row::Row;
 use sample::record::SampleRecord;
 use sample::row::Sample;
@@ -57,7 +58,7 @@ fn reading(item: u64) -> Reading {
 }
 
 // The value of a reading of this item.
-pub(crate) fn single<S: Synopsis>(item: u64) -> S {
+fn single<S: Synopsis>(item: u64) -> S {
     S::make(reading(item))
 }
 
@@ -92,14 +93,19 @@ fn at_place<S: Odd>(
     }
 }
 
-// Decodes bytes into a place that holds two items and into an odd one, which must not matter.
-fn decoded<S: Odd>(heap: Global, bytes: &[u8], brief: bool) -> Result<String, AllocError> {
-    let one = at_place::<S>(heap, two_items(), &two_items(), bytes, brief)?;
-    let other = at_place::<S>(heap, S::odd(), &S::odd(), bytes, brief)?;
+// What two ways gave; no case expects that they differ.
+pub(crate) fn same(heap: Global, one: String, other: String) -> Result<String, AllocError> {
     if one != other {
         return String::from_str(heap, "apart");
     }
     Ok(one)
+}
+
+// Decodes bytes into a place that holds two items and into an odd one, which must not matter.
+fn decoded<S: Odd>(heap: Global, bytes: &[u8], brief: bool) -> Result<String, AllocError> {
+    let one = at_place::<S>(heap, two_items(), &two_items(), bytes, brief)?;
+    let other = at_place::<S>(heap, S::odd(), &S::odd(), bytes, brief)?;
+    same(heap, one, other)
 }
 
 // Decodes each byte string; equal outcomes in a row are counted.
@@ -167,12 +173,21 @@ fn many(heap: Global, fields: &[&str]) -> Result<Vec<Vec<u8>>, Fault> {
     }
 }
 
+// The value of a frame.
+fn value_of<S: Synopsis>(frame: &[u8]) -> Result<S, Fault> {
+    let mut value = S::empty();
+    match value.decode(frame) {
+        Ok(()) => Ok(value),
+        Err(_) => Err(Fault::Form),
+    }
+}
+
 // Encodes the value of a frame into a room whose neighbouring bytes differ.
 fn encoded<S: Synopsis>(heap: Global, frame: &[u8], size: usize) -> Result<String, Fault> {
-    let mut value = S::empty();
-    if size > MOST_ROOM || value.decode(frame).is_err() {
+    if size > MOST_ROOM {
         return Err(Fault::Form);
     }
+    let value: S = value_of(frame)?;
     let mut room = vec![in heap; 165u8; size]?;
     let mut next = 165u8;
     for byte in room.as_mut_slice() {
@@ -187,6 +202,31 @@ fn encoded<S: Synopsis>(heap: Global, frame: &[u8], size: usize) -> Result<Strin
     })
 }
 
+// Counts readings into a value, one after another: by ADD, and by FUSE with what MAKE gives, either way round. The value is
+// given once for each of these, which must not matter.
+pub(crate) fn counted<S: Synopsis>(
+    heap: Global,
+    thrice: (S, S, S),
+    readings: &str,
+) -> Result<String, Fault> {
+    let (mut added, mut before, mut behind) = thrice;
+    let bytes = bytes(heap, readings)?;
+    let (records, rest) = bytes.as_slice().as_chunks::<20>();
+    if !rest.is_empty() {
+        return Err(Fault::Form);
+    }
+    for record in records {
+        let reading = Reading::from(SampleRecord::get(record));
+        added.add(reading);
+        before.fuse(&S::make(reading));
+        let mut made: S = S::make(reading);
+        made.fuse(&behind);
+        behind = made;
+    }
+    let fused = same(heap, written(heap, &before)?, written(heap, &behind)?)?;
+    Ok(same(heap, written(heap, &added)?, fused)?)
+}
+
 // The number, the greatest length and the empty value of a kind.
 fn itself<S: Synopsis>(heap: Global) -> Result<String, AllocError> {
     let (number, greatest) = (S::kind_number(), S::greatest_length());
@@ -199,6 +239,11 @@ pub(crate) fn answer<S: Odd>(heap: Global, fields: &[&str]) -> Result<String, Fa
         ["kind"] => Ok(itself::<S>(heap)?),
         ["decode", text] => Ok(decoded::<S>(heap, &bytes(heap, text)?, false)?),
         ["encode", text, room] => encoded::<S>(heap, &bytes(heap, text)?, size(room)?),
+        ["add", text, readings] => {
+            let frame = bytes(heap, text)?;
+            let thrice = (value_of(&frame)?, value_of(&frame)?, value_of(&frame)?);
+            counted::<S>(heap, thrice, readings)
+        }
         _ => Ok(all_decoded::<S>(heap, &many(heap, fields)?)?),
     }
 }

@@ -56,11 +56,9 @@ fn of_hashes(heap: Global, fields: &[&str]) -> Result<String, Fault> {
 fn answer(heap: Global, line: &str) -> Result<String, Fault> {
     let fields: Vec<&str> = line.split(' ').collect(heap)?;
     match fields.as_slice() {
-        ["v", "row", count, elements] => row::of_least(heap, count, elements),
-        ["s", "row", count, elements] => row::of_sample(heap, count, elements),
         ["b", rest @ ..] => kind::answer::<Bitmaps>(heap, rest),
-        ["v", rest @ ..] => kind::answer::<LeastValues>(heap, rest),
-        ["s", rest @ ..] => kind::answer::<Sample>(heap, rest),
+        ["v", rest @ ..] => row::answer::<LeastValues>(heap, rest),
+        ["s", rest @ ..] => row::answer::<Sample>(heap, rest),
         ["p", rest @ ..] => kind::answer::<StandardPile>(heap, rest),
         ["t", rest @ ..] => kind::answer::<Pair<LeastValues, LeastValues>>(heap, rest),
         ["n", rest @ ..] => kind::answer::<Pair<Pair<Bitmaps, Sample>, LeastValues>>(heap, rest),

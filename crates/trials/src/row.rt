@@ -2,16 +2,15 @@
 ghost use Rattle.std.specs.Prelude.{◌<◌, ◌^◌};
 
 use crate::field::{Fault, bytes, size};
-use crate::kind::single;
+use crate::kind::{self, Odd, counted, same};
 use crate::text::written;
 use least::row::LeastValues;
 use records::record::Record;
 use runs::element::Fresh;
 use runs::row::Row;
 use sample::record::SampleRecord;
-use sample::row::{Sample, SampleRun};
-use std::alloc::{AllocError, Global};
-use synopsis::kind::Synopsis;
+use sample::row::Sample;
+use std::alloc::Global;
 
 // The row with this count and these elements of W bytes each; the places behind them are blank.
 fn read_row<R: Record + Fresh, const W: usize, const N: usize>(
@@ -35,23 +34,62 @@ fn read_row<R: Record + Fresh, const W: usize, const N: usize>(
     Ok(Row { count, places })
 }
 
-// What a row stands for, its figures, and its join with a reading, in both orders.
-fn told<S: Synopsis + Copy>(heap: Global, row: S, figures: u64) -> Result<String, AllocError> {
-    let (mut before, mut behind): (S, S) = (row, single(0));
-    before.fuse(&single(0));
-    behind.fuse(&row);
-    let (before, behind) = (written(heap, &before)?, written(heap, &behind)?);
-    format!(in heap; "{} {figures} {before} {behind}", written(heap, &row)?)
+// A kind whose values are plain rows.
+pub(crate) trait Rows: Odd + Copy {
+    // The value of a row.
+    fn of_row(heap: Global, count: &str, elements: &str) -> Result<Self, Fault>;
+
+    // The estimate, or the number of records.
+    fn figure(&self) -> u64;
 }
 
-pub(crate) fn of_least(heap: Global, count: &str, elements: &str) -> Result<String, Fault> {
-    let row = read_row::<u64, 8, 64>(heap, count, elements)?;
-    let value = LeastValues { row };
-    Ok(told(heap, value, value.estimate())?)
+impl Rows for LeastValues {
+    fn of_row(heap: Global, count: &str, elements: &str) -> Result<LeastValues, Fault> {
+        let row = read_row::<u64, 8, 64>(heap, count, elements)?;
+        Ok(LeastValues { row })
+    }
+
+    fn figure(&self) -> u64 {
+        self.estimate()
+    }
 }
 
-pub(crate) fn of_sample(heap: Global, count: &str, elements: &str) -> Result<String, Fault> {
-    let row = read_row::<SampleRecord, 20, 32>(heap, count, elements)?;
-    let records = SampleRun::of(&row).as_slice().len();
-    Ok(told(heap, Sample { row }, records as u64)?)
+impl Rows for Sample {
+    fn of_row(heap: Global, count: &str, elements: &str) -> Result<Sample, Fault> {
+        let row = read_row::<SampleRecord, 20, 32>(heap, count, elements)?;
+        Ok(Sample { row })
+    }
+
+    fn figure(&self) -> u64 {
+        self.row.items().len() as u64
+    }
+}
+
+// What a row stands for, its figure, and the value after readings were counted into it.
+fn told<S: Rows>(heap: Global, row: S, readings: &str) -> Result<String, Fault> {
+    let after = counted(heap, (row, row, row), readings)?;
+    let (before, figure) = (written(heap, &row)?, row.figure());
+    Ok(format!(in heap; "{before} {figure} {after}")?)
+}
+
+// The join of two rows, in both orders.
+fn joined<S: Rows>(heap: Global, one: S, other: S) -> Result<String, Fault> {
+    let (mut before, mut behind) = (one, other);
+    before.fuse(&other);
+    behind.fuse(&one);
+    Ok(same(heap, written(heap, &before)?, written(heap, &behind)?)?)
+}
+
+// Answers a line, given its fields after the kind's letter.
+pub(crate) fn answer<S: Rows>(heap: Global, fields: &[&str]) -> Result<String, Fault> {
+    match fields {
+        ["row", count, elements, readings] => {
+            told::<S>(heap, S::of_row(heap, count, elements)?, readings)
+        }
+        ["fuse", count, elements, count_there, elements_there] => {
+            let there = S::of_row(heap, count_there, elements_there)?;
+            joined::<S>(heap, S::of_row(heap, count, elements)?, there)
+        }
+        fields => kind::answer::<S>(heap, fields),
+    }
 }

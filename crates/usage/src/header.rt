@@ -4,7 +4,6 @@ ghost use Rattle.usage.specs.Pages.{header_cells, header_bytes, header_width, he
 use crate::cell::{Cell, put_cells};
 use crate::pile::StandardPile;
 use crate::row::{COLUMNS, WIDTH};
-use least::row::LeastRun;
 
 /// How many bytes a header has; the first row follows.
 pub const HEADER: usize = 32;
@@ -36,7 +35,7 @@ impl Header {
         requires { rows ≤ 32 }
         ensures { result ≡ header_for (pile_form value.now) rows }
     {
-        let least = LeastRun::of(&value.second.first.row);
+        let least = value.second.first.row.items();
         Header {
             rows: rows as u16,
             columns: COLUMNS as u16,
@@ -45,7 +44,7 @@ impl Header {
             bitmap_estimate: value.first.estimate(),
             least_estimate: value.second.first.estimate(),
             sum: value.first.sum(),
-            least_count: least.as_slice().len() as u32,
+            least_count: least.len() as u32,
         }
     }
 

@@ -10,7 +10,6 @@ use crate::pile::StandardPile;
 use crate::row::{Row, WIDTH};
 use arrayvec::ArrayVec;
 use sample::record::SampleRecord;
-use sample::row::SampleRun;
 
 // How many rows a page has at most, since a sample has so many records.
 const MOST: usize = 32;
@@ -56,8 +55,7 @@ pub fn usage(value: &StandardPile, out: &mut [u8]) -> Result<usize, PageFault>
     if out.len() < LEAST_ROOM {
         return Err(PageFault::Room);
     }
-    let run = SampleRun::of(&value.second.second.row);
-    let sample = run.as_slice();
+    let sample = value.second.second.row.items();
     let tenants = tenants_of(sample);
     let header = Header::of(value, tenants.len());
     let end = usize::from(header.end);
