@@ -1,7 +1,7 @@
 // Values that are read from frames, encoded and joined.
 ghost use Rattle.std.specs.Prelude.{◌≡◌, map, length, take, drop};
 ghost use Rattle.std.specs.List.{fold};
-ghost use Rattle.synopsis.specs.Kind.{Decoded, encode_after};
+ghost use Rattle.synopsis.specs.Kind.{encode_after};
 ghost use Rattle.histories.specs.Folds.{read_as};
 ghost use Rattle.bench_calls.specs.Values.{again, frame_at, refusal, taken, last_taken, refusals, forms, encoded, gathered, joined_last};
 
