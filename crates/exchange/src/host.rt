@@ -34,7 +34,7 @@ impl Host {
     pub(crate) fn see(&mut self, rt: &impl Print, reading: Reading) -> io::Result<()>
         ensures { least_form self.new.value ≡ least_kind.join (least_form self.old.value) (least_kind.single reading) }
     {
-        self.value.fuse(&LeastValues::make(reading));
+        self.value.add(reading);
         let name = self.name;
         let Reading { tenant, item, .. } = reading;
         println!(rt; "   {name} sees client {item} of tenant {tenant}")

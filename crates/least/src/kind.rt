@@ -70,7 +70,6 @@ impl Synopsis for LeastValues {
     }
 
     fn decode(&mut self, frame: &[u8]) -> Result<(), DecodeFault> {
-        self.row = decode_row(Self::NUMBER, frame)?;
-        Ok(())
+        decode_row(Self::NUMBER, frame, &mut self.row)
     }
 }

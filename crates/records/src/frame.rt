@@ -113,14 +113,16 @@ pub fn decode_run<E: Record>(kind: u8, frame: &[u8], out: &mut [E]) -> Result<us
 }
 
 /// Reads a frame of a kind whose records rise into a row with a place for each of its most records; it refuses as
-/// `decode_run` does.
+/// `decode_run` does, and then the row stays.
 pub fn decode_row<E: Record + Fresh, const N: usize>(
     kind: u8,
     frame: &[u8],
-) -> Result<Row<E, N>, DecodeFault>
-    ensures { MatchResult result (λ row. (read_frame kind N E.Record.layout E.Ord.cmp frame.now ≡ Ok (form_of E.Ord.cmp E.Element.blank row)) × (frame_of kind E.Record.layout (form_of E.Ord.cmp E.Element.blank row).items ≡ frame.now)) (λ e. read_frame kind N E.Record.layout E.Ord.cmp frame.now ≡ Err e) }
+    row: &mut Row<E, N>,
+) -> Result<(), DecodeFault>
+    ensures { MatchResult result (λ _. (read_frame kind N E.Record.layout E.Ord.cmp frame.now ≡ Ok (form_of E.Ord.cmp E.Element.blank row.new)) × (frame_of kind E.Record.layout (form_of E.Ord.cmp E.Element.blank row.new).items ≡ frame.now)) (λ e. (read_frame kind N E.Record.layout E.Ord.cmp frame.now ≡ Err e) × (row.new ≡ row.old)) }
 {
     let mut places = [E::default(); N];
     let count = decode_run(kind, frame, &mut places)?;
-    Ok(Row { count, places })
+    *row = Row { count, places };
+    Ok(())
 }

@@ -30,10 +30,14 @@ impl<'a, E: Element> Keyed<'a, E> {
     pub fn of(items: &'a [E], room: &'a mut [u64]) -> Option<Keyed<'a, E>>
         ensures { MatchOption result (length items.now ≤ length room.old → rising E.Ord.cmp items.now ≡ false) (λ run. (rising E.Ord.cmp items.now ≡ true) × (run.items.now ≡ items.now)) }
     {
-        if room.len() < items.len() || fall_noting(items, room).is_some() {
+        if room.len() < items.len() {
             return None;
         }
-        let keys = E::keys(items, &room[0..items.len()]);
+        let noted = &mut room[0..items.len()];
+        if fall_noting(items, noted).is_some() {
+            return None;
+        }
+        let keys = E::keys(items, noted);
         Some(Keyed { items, keys })
     }
 

@@ -5,6 +5,7 @@ ghost use Rattle.std.specs.List.{list_all};
 use crate::element::{Element, order_by};
 
 // Notes a key at a place, if there is such a place.
+#[inline(always)]
 fn note(room: &mut [u64], place: usize, key: u64)
     ensures { room.new ≡ slice_set room.old place key }
 {
@@ -13,8 +14,10 @@ fn note(room: &mut [u64], place: usize, key: u64)
     }
 }
 
-// As `fall`; besides, the keys of a run are noted in room lent for them, as far as it goes.
-pub(crate) fn fall_noting<E: Element>(items: &[E], room: &mut [u64]) -> Option<usize>
+// Looks for the fall, and notes the keys of a run in room lent for them, as far as it goes. Inlined, so that it notes nothing
+// where there is no room.
+#[inline(always)]
+fn walk<E: Element>(items: &[E], room: &mut [u64]) -> Option<usize>
     ensures fall { result ≡ first_fall E.Ord.cmp items.now }
     ensures keys { result ≡ None → length items.now ≤ length room.old → take (length items.now) room.new ≡ map E.Element.key items.now }
 {
@@ -33,11 +36,19 @@ pub(crate) fn fall_noting<E: Element>(items: &[E], room: &mut [u64]) -> Option<u
     None
 }
 
+// As `fall`; besides, the keys of a run are noted in room lent for them, if that is long enough.
+pub(crate) fn fall_noting<E: Element>(items: &[E], room: &mut [u64]) -> Option<usize>
+    ensures fall { result ≡ first_fall E.Ord.cmp items.now }
+    ensures keys { result ≡ None → length items.now ≤ length room.old → take (length items.now) room.new ≡ map E.Element.key items.now }
+{
+    walk(items, room)
+}
+
 /// The place of the first element that is not greater than its predecessor; none in a run.
 pub fn fall<E: Element>(items: &[E]) -> Option<usize>
     ensures { result ≡ first_fall E.Ord.cmp items.now }
 {
-    fall_noting(items, &mut [])
+    walk(items, &mut [])
 }
 
 /// Whether every place is as an unused one.

@@ -54,7 +54,6 @@ impl Synopsis for Sample {
     }
 
     fn decode(&mut self, frame: &[u8]) -> Result<(), DecodeFault> {
-        self.row = decode_row(Self::NUMBER, frame)?;
-        Ok(())
+        decode_row(Self::NUMBER, frame, &mut self.row)
     }
 }

@@ -15,7 +15,7 @@ ghost use Rattle.session.specs.Writing.{Wrote, WroteAllBut};
 use crate::answer::{OutputLine, Said};
 use crate::paged::Paged;
 use crate::put::put;
-use crate::serve::serve_line;
+use crate::serve::serve_in;
 use bitmaps::maps::Bitmaps;
 use diffusion::answer::Answer;
 use least::row::LeastValues;
@@ -56,10 +56,21 @@ fn play<S: Paged, W: Write>(
     requires { first + length input.now < 2 ^ 64 }
     ensures { (nodes : ℕ) → After S.Synopsis.kind S.Synopsis.form nodes [] (rack network.old values.old memory.old) → Wrote result (W.contents writer.old) (W.contents writer.new) (printed_from first (open_answers S.Synopsis.kind S.page nodes [] (lines input.now))) }
 {
+    let mut room = [0; LONGEST];
+    let mut output = OutputLine::new(first);
     let mut number = first;
     let mut rest = input;
     while let Some((line, after)) = first_line(rest) {
-        serve_line(network, values, memory, number, line, writer)?;
+        output.number = number;
+        serve_in(
+            network,
+            values,
+            memory,
+            line,
+            &mut room,
+            &mut output,
+            writer,
+        )?;
         number += 1;
         rest = after;
     }

@@ -86,6 +86,7 @@ fn answer_line<S: Paged>(
     values: &mut [S],
     memory: &mut [u8],
     line: &[u8],
+    room: &mut [u8; LONGEST],
     output: &mut OutputLine,
 ) -> fmt::Result
     ensures { (nodes : ℕ) (h : History) → After S.Synopsis.kind S.Synopsis.form nodes h (rack network.old values.old memory.old)
@@ -95,11 +96,30 @@ fn answer_line<S: Paged>(
     let stage = Stage::Open {
         pages: S::has_page(),
     };
-    let mut room = [0; LONGEST];
-    match read_line(line, stage, &mut room) {
-        Ok(request) => say_answer(network, values, memory, request.ask(&room), output),
+    match read_line(line, stage, room) {
+        Ok(request) => say_answer(network, values, memory, request.ask(room), output),
         Err(fault) => output.say(Said::Bad(fault)),
     }
+}
+
+// Serves one line as `serve_line` does, in room for the line's frame and with an output line that are lent.
+pub(crate) fn serve_in<S: Paged, W: Write>(
+    network: &mut Network,
+    values: &mut [S],
+    memory: &mut [u8],
+    line: &[u8],
+    room: &mut [u8; LONGEST],
+    output: &mut OutputLine,
+    writer: &mut W,
+) -> io::Result<()>
+    ensures { (nodes : ℕ) (h : History) → After S.Synopsis.kind S.Synopsis.form nodes h (rack network.old values.old memory.old)
+        → Wrote result (W.contents writer.old) (W.contents writer.new) (line_text output.old.number (open_owes S.Synopsis.kind S.page nodes h (asked (Open (is_some S.page)) line.now)))
+        × After S.Synopsis.kind S.Synopsis.form nodes (open_leaves S.Synopsis.kind S.page nodes h (asked (Open (is_some S.page)) line.now)) (rack network.new values.new memory.new) }
+{
+    if answer_line(network, values, memory, line, room, output).is_err() {
+        return Err(io::Error::from(ErrorKind::WriteZero));
+    }
+    put(writer, output.text.as_str().as_bytes())
 }
 
 /// Serves one line on an open network: makes the call that it asks for, and writes one line of output with this number. The
@@ -118,9 +138,15 @@ pub fn serve_line<S: Paged, W: Write>(
         → Wrote result (W.contents writer.old) (W.contents writer.new) (line_text number (open_owes S.Synopsis.kind S.page nodes h (asked (Open (is_some S.page)) line.now)))
         × After S.Synopsis.kind S.Synopsis.form nodes (open_leaves S.Synopsis.kind S.page nodes h (asked (Open (is_some S.page)) line.now)) (rack network.new values.new memory.new) }
 {
+    let mut room = [0; LONGEST];
     let mut output = OutputLine::new(number);
-    if answer_line(network, values, memory, line, &mut output).is_err() {
-        return Err(io::Error::from(ErrorKind::WriteZero));
-    }
-    put(writer, output.text.as_str().as_bytes())
+    serve_in(
+        network,
+        values,
+        memory,
+        line,
+        &mut room,
+        &mut output,
+        writer,
+    )
 }

@@ -1,6 +1,6 @@
 use Rattle.std.proofs.Common.{◌≡◌, ◌+◌, ◌≤◌, drop, take, map, length}
 use Rattle.runs.specs.Runs.{fall_from, first_fall}
-use Rattle.runs.proofs.run.fall_noting.Given as goal
+use Rattle.runs.proofs.run.walk.Given as goal
 
 -- the fall is in what is left, the key is that of the last element, and those so far are noted
 abbrev pub invariant-loop-i : goal.invariant-loop-i

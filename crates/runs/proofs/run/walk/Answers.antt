@@ -2,8 +2,8 @@ use Rattle.std.proofs.Common.{◌≡◌, ◌+◌, ◌<◌, suc, ◌∷◌, drop,
 use Rattle.std.proofs.lemmas.List.{drop_more}
 use Rattle.runs.specs.Runs.{fall_from}
 use Rattle.runs.proofs.Noting.{fall_next, noted_more}
-use Rattle.runs.proofs.run.fall_noting.Goals as goal
-use Rattle.runs.proofs.run.fall_noting.Goals.{else-next-key-via-then-next-key+else-is_ge, else-next-key-via-else-next-key}
+use Rattle.runs.proofs.run.walk.Goals as goal
+use Rattle.runs.proofs.run.walk.Goals.{else-next-key-via-then-next-key+else-is_ge, else-next-key-via-else-next-key}
 
 pub loop-i-init : goal.loop-i-init
 loop-i-init g c = record {
