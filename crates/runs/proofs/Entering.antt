@@ -1,16 +1,15 @@
 -- What may enter a run, and where: what a run keeps of a union with others.
-use Rattle.std.proofs.Common.{◌≡◌, ℕ, zero, suc, ◌-◌, ◌<◌, ◌≤◌, Bool, true, false, T, ◌⊎◌, List, [], ◌∷◌, ◌++◌, length, map, take, drop, get_or, Ordering, Less, Equal, Greater, sym, refl, ap, ◌∙◌, subst, inl, inr, ⊎_elim, arith}
-use mathlib.Core.Bool.{true≢false}
+use Rattle.std.proofs.Common.{◌≡◌, ℕ, zero, suc, ◌-◌, ◌<◌, ◌≤◌, T, ◌⊎◌, List, [], ◌∷◌, ◌++◌, length, map, take, drop, get_or, Ordering, Less, Equal, Greater, sym, refl, ap, ◌∙◌, subst, inl, inr, ⊎_elim, arith}
 use Rattle.std.proofs.lemmas.Bool.{cases_lt}
 use Rattle.std.proofs.lemmas.Bool.Decides.{nat_tests}
 use Rattle.std.proofs.lemmas.List.{get_or-take, get_or-map, length-map, length-take-le}
 use Rattle.std.specs.List.{AllByRecursion, AllWithin}
 use Rattle.std.specs.List.Sorted.{IsNonDecreasingBy}
-use Rattle.std.specs.Ordering.{nat_cmp, ordering_index, is_lt, is_ge}
+use Rattle.std.specs.Ordering.{nat_cmp, ordering_index}
 use Rattle.runs.specs.Order.{Lawful}
-use Rattle.runs.specs.Runs.{rising, rising_from}
+use Rattle.runs.specs.Runs.{rising}
 use Rattle.runs.specs.Union.{Among, Least, Either, pick, against, merge, union_of}
-use Rattle.runs.proofs.Rising.{both, is_less, holds_from, all_among, all_from_among, above, rest_rises, never_less}
+use Rattle.runs.proofs.Rising.{all_among, all_from_among, above, rest_rises, never_less}
 use Rattle.runs.proofs.Unions.{own, like, widen, joins, union_means, take_rises, from_take}
 
 -- elements by their places, where it does not matter what would stand elsewhere
@@ -28,10 +27,6 @@ among_at (x ∷ xs) (suc i) d lt = inr (among_at xs i d (omega arith))
 pub place_of : {E : Type 0} (xs : List E) (d x : E) → Among x xs → (i : ℕ) × (i < length xs) × (x ≡ get_or xs i d)
 place_of [] d x m = absurd m
 place_of (y ∷ ys) d x m = ⊎_elim (λ e. (0, omega arith, e)) (λ n. let p = place_of ys d x n in (suc p.0, omega (arith, p.1), p.2)) m
-
-pub none_left : {E : Type 0} (xs : List E) (x : E) → length xs ≡ 0 → Among x xs → ⊥
-none_left [] x e m = m
-none_left (y ∷ ys) x e m = absurd (omega arith)
 
 -- an element is among those before a place, or stands at it or later
 split_at : {E : Type 0} (xs : List E) (at : ℕ) (d x : E) → at ≤ length xs → Among x xs → Among x (take at xs) ⊎ ((i : ℕ) × (at ≤ i) × (i < length xs) × (x ≡ get_or xs i d))
@@ -142,26 +137,6 @@ module _ {E : Type 0} (order : E → E → Ordering) (laws : Lawful order) where
       (λ e. inl (subst (λ (w : E). Among w xs) (sym (p.3 ∙ e)) (among_at xs (length xs - 1) d (omega arith))))
       (λ e. inr (below_last xs x d hx (omega arith) (subst (λ (w : E). order (get_or xs (length xs - 1) d) w ≡ Less) (sym p.3) e)))
       (later p.0 p.1 p.2))) (split_at ys end d x le m))
-
-  -- a list in which each is less than the next is a run
-  rises_from : (x : E) (xs : List E) → ((j : ℕ) (d : E) → suc j < suc (length xs) → order (get_or (x ∷ xs) j d) (get_or (x ∷ xs) (suc j) d) ≡ Less) → T (rising_from order x xs)
-  rises_from x [] h = tt
-  rises_from x (y ∷ ys) h =
-      both (is_lt (order x y)) (rising_from order y ys) (is_less (order x y) (h 0 y (omega arith))) (rises_from y ys (λ j d lt. h (suc j) d (omega arith)))
-
-  pub rises_by_places : (xs : List E) → ((j : ℕ) (d : E) → suc j < length xs → order (get_or xs j d) (get_or xs (suc j) d) ≡ Less) → T (rising order xs)
-  rises_by_places [] h = tt
-  rises_by_places (x ∷ xs) h = rises_from x xs h
-
-  -- and one in which one is not is none
-  pub falls_at : (xs : List E) (i : ℕ) (d : E) → 0 < i → i < length xs → is_ge (order (get_or xs (i - 1) d) (get_or xs i d)) ≡ true → false ≡ rising order xs
-  falls_at xs i d some lt e = by (rising order xs) refl
-    where
-      by : (b : Bool) → rising order xs ≡ b → false ≡ b
-      by false f = refl
-      by true f =
-          let less = rise_at xs (i - 1) i d (holds_from (rising order xs) f) (omega arith) lt in
-          absurd (true≢false (sym e ∙ ap is_ge less))
 
   -- the keys of a run do not fall, so that they can be searched
   module _ (key : E → ℕ) (keyed : (x y : E) → key x < key y → order x y ≡ Less) where

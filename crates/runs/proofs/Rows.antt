@@ -47,9 +47,6 @@ module _ {E : Type 0} (order : E → E → Ordering) (blank : E → Bool) (count
         ∙ ap (λ (l : List E). rising order l && list_all blank (drop count places)) (sym cut.1)
         ∙ ap (λ (l : List E). rising order front && list_all blank l) (sym cut.2)
 
-    pub split_items : (rising order front && list_all blank rest) ≡ true → front ≡ row_items order blank count places
-    split_items e = cut.1 ∙ sym (cond-true (is_run_row order blank count places) (take count places) [] (row_split ∙ e))
-
     pub split_none : (rising order front && list_all blank rest) ≡ false → [] ≡ row_items order blank count places
     split_none e = sym (cond-false (is_run_row order blank count places) (take count places) [] (row_split ∙ e))
 
@@ -103,10 +100,7 @@ module _ {E : Type 0} (order : E → E → Ordering) (blank : E → Bool) (k cou
     fresh_row x unused le up rest =
         make_row order blank count places (omega arith) up (subst (λ (l : List E). T (list_all blank l)) (sym rest) (rest_fresh blank x unused count k))
 
-  -- what a kept row counts rises, also in a slice of it, and the row stands for it
-  pub slice_rises : T (is_run_row order blank count places) → (slice : List E) → slice ≡ take count places → T (rising order slice)
-  slice_rises t slice e = subst (λ (l : List E). T (rising order l)) (sym e) (left (rising order (take count places)) _ (right (leb count (length places)) _ t))
-
+  -- a kept row stands for what it counts
   pub kept_form : T (is_run_row order blank count places) → row_form order blank k count places ≡ as_run order k (take count places)
   kept_form t = ap (as_run order k) (row_counted order blank count places t)
 

@@ -48,7 +48,7 @@ pub trait Fresh: Element + Default {
     ghost fresh: { (x : Self) → Self.is_default x → T (Self.blank x) };
 }
 
-// The order of two elements beside their keys, which tell it where they differ.
+// The order of two elements: by their keys where these differ.
 pub(crate) fn order_by<E: Element>(x: E, x_key: u64, y: E, y_key: u64) -> Ordering
     requires first { x_key ≡ E.Element.key x }
     requires second { y_key ≡ E.Element.key y }

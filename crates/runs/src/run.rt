@@ -14,8 +14,8 @@ fn note(room: &mut [u64], place: usize, key: u64)
     }
 }
 
-// Looks for the fall, and notes the keys of a run in room lent for them, as far as it goes. Inlined, so that it notes nothing
-// where there is no room.
+// Looks for the fall, and notes the keys of a run in room lent for them, as far as it goes. Inlined, so that with no room the
+// notes cost nothing.
 #[inline(always)]
 fn walk<E: Element>(items: &[E], room: &mut [u64]) -> Option<usize>
     ensures fall { result ≡ first_fall E.Ord.cmp items.now }
@@ -36,7 +36,7 @@ fn walk<E: Element>(items: &[E], room: &mut [u64]) -> Option<usize>
     None
 }
 
-// As `fall`; besides, the keys of a run are noted in room lent for them, if that is long enough.
+// As `fall`; it also notes the keys of a run in room lent for them, if that is long enough.
 pub(crate) fn fall_noting<E: Element>(items: &[E], room: &mut [u64]) -> Option<usize>
     ensures fall { result ≡ first_fall E.Ord.cmp items.now }
     ensures keys { result ≡ None → length items.now ≤ length room.old → take (length items.now) room.new ≡ map E.Element.key items.now }

@@ -3,7 +3,7 @@ ghost use Rattle.std.proofs.Common.{rules};
 
 use crate::element::Element;
 
-// Numbers of 32 bits, as maps are: elements because `Record` asks for it; 0 where unused.
+// Numbers of 32 bits, as maps and tenants are: 0 where unused.
 impl Element for u32 {
     ghost blank = { λ x. (x == 0) };
 

@@ -1,4 +1,4 @@
-use Rattle.std.proofs.Common.{◌≡◌, not, is_some, true, false, refl, sym, ap, ◌∙◌, arith}
+use Rattle.std.proofs.Common.{not, is_some, refl, sym, ap, ◌∙◌}
 use Rattle.runs.proofs.Rows.{rising_is}
 use Rattle.runs.proofs.keyed.Keyed.of.Goals as goal
 
