@@ -1,5 +1,5 @@
 -- The lines so far are written, and those that are left complete the output.
-use Rattle.std.proofs.Common.{◌≡◌, ℕ, ◌+◌, Bool, true, false, List, [], ◌∷◌, ◌++◌, cond, None, Some, Option, Ok, Err, Result, IsErr, refl, sym, ap, subst, ◌∙◌}
+use Rattle.std.proofs.Common.{◌≡◌, ℕ, ◌+◌, Bool, true, false, List, [], ◌∷◌, ◌++◌, cond, Option, Ok, Result, IsErr, refl, sym, ap, subst}
 use Rattle.std.specs.Prelude.{is_some}
 use Rattle.synopsis.specs.Kind.{Kind}
 use Rattle.histories.specs.Deeds.{History}
@@ -16,7 +16,7 @@ use Rattle.session.specs.Sessions.{After}
 use Rattle.session.specs.Owing.{Page, opens, open_owes, open_leaves, open_answers}
 use Rattle.session.specs.Standing.{kind_of_letter, page_of_letter, opened, closed, ask_owes, ask_leaves, answers}
 use Rattle.session.specs.Writing.{Written, Wrote, WroteAllBut}
-use Rattle.session.proofs.Written.{part_more, more_of, nothing_yet, after_error}
+use Rattle.session.proofs.Written.{part_more, more_of, after_error}
 
 -- the answers on an open network of a letter's kind
 pub answers_open : (l : KindLetter) (nodes : ℕ) (h : History) (ls : List (List ℕ)) → answers (opened l nodes h) ls ≡ open_answers (kind_of_letter l) (page_of_letter l) nodes h ls

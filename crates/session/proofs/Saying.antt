@@ -1,5 +1,5 @@
 -- What a text in fixed room holds after several calls that wrote to it.
-use Rattle.std.proofs.Common.{◌≡◌, ℕ, List, [], ◌∷◌, ◌++◌, Ok, Err, Some, Result, OnOk, codes, append-nil, refl, sym, ap, subst, ◌∙◌, append_assoc}
+use Rattle.std.proofs.Common.{◌≡◌, ℕ, List, [], ◌∷◌, ◌++◌, Ok, Err, Some, Result, OnOk, codes, append-nil, sym, ap, subst, ◌∙◌, append_assoc}
 use Rattle.std.specs.List.{FoldsTo, concat}
 use Rattle.std.specs.Fmt.{WritesText, decimal}
 use Rattle.diffusion.specs.Turns.{Told}

@@ -1,5 +1,5 @@
 -- The laws of scripts.
-use Rattle.std.proofs.Common.{◌≡◌, ℕ, suc, ◌+◌, ◌≤◌, Bool, true, false, ◌||◌, cond, List, [], ◌∷◌, ◌++◌, length, take, drop, get_or, None, Some, Option, Ok, Err, Result, ltb, leb, refl, sym, ap, subst, ◌∙◌, arith, append_assoc}
+use Rattle.std.proofs.Common.{◌≡◌, ℕ, suc, ◌+◌, ◌≤◌, Bool, true, false, ◌||◌, cond, List, [], ◌∷◌, ◌++◌, length, take, drop, get_or, Ok, Err, Result, ltb, leb, refl, sym, ap, subst, ◌∙◌, arith, append_assoc}
 use Rattle.std.specs.List.{remove}
 use Rattle.std.proofs.lemmas.Bool.{cond-false, le-ltb}
 use Rattle.std.proofs.lemmas.List.{take-append-drop}
@@ -19,7 +19,7 @@ use Rattle.histories.specs.Search.{filled, Sound}
 use Rattle.histories.specs.Folds.{node_form, Came}
 use Rattle.histories.proofs.Finding.{found, complete}
 use Rattle.histories.proofs.Folding.{same_contributions}
-use Rattle.diffusion.specs.Turns.{Told, done, bytes, refused, is_accepted}
+use Rattle.diffusion.specs.Turns.{Told, done, is_accepted}
 use Rattle.diffusion.specs.Owed.{owes, refused_if}
 use Rattle.diffusion.proofs.Promising.{read_owed}
 use Rattle.script.specs.declared.fault.LineFault.{LineFault}

@@ -1,7 +1,6 @@
 -- A line on an open network is told what the history owes, and leaves what goes on with the history.
-use Rattle.std.proofs.Common.{◌≡◌, ℕ, ◌≤◌, Bool, true, false, cond, List, [], ◌∷◌, ◌++◌, length, map, None, Some, Option, Ok, Err, Result, OnOk, MatchResult, is_err, leb, ltb, ◌||◌, refl, sym, ap, subst, ◌∙◌, ⊎_elim, arith}
-use Rattle.std.proofs.lemmas.Bool.{cond-true, cond-false, cases_Bool, leb-false, ltb-false, or_parts}
-use Rattle.std.proofs.lemmas.List.{length-map}
+use Rattle.std.proofs.Common.{◌≡◌, ℕ, ◌≤◌, Bool, true, false, cond, List, [], ◌∷◌, ◌++◌, length, None, Some, Ok, Err, Result, OnOk, MatchResult, is_err, leb, ltb, ◌||◌, refl, sym, ap, subst, ◌∙◌, ⊎_elim, arith}
+use Rattle.std.proofs.lemmas.Bool.{cond-true, cases_Bool, leb-false, ltb-false, or_parts}
 use Rattle.synopsis.specs.Kind.{Kind, Laws, overlong}
 use Rattle.histories.specs.declared.Call.{Call}
 use Rattle.histories.specs.declared.Call.TheVariants.{Generate, Arrive, Send, Deliver, Drop, Read}
@@ -11,7 +10,7 @@ use Rattle.histories.specs.Folds.{node_form}
 use Rattle.network.specs.Calls.{unless, with_enough_lent, value_form}
 use Rattle.network.proofs.Refusing.{not_refused}
 use Rattle.diffusion.specs.Turns.{Told, done, bytes, refused, is_accepted}
-use Rattle.diffusion.specs.Runs.{Rack, formed, rack_tells, Step, Opened, Ran, begun, then}
+use Rattle.diffusion.specs.Runs.{Rack, rack_tells, Step, Opened, Ran, then}
 use Rattle.diffusion.specs.Owed.{owes, refused_if}
 use Rattle.diffusion.specs.Promise.{Kept}
 use Rattle.diffusion.proofs.Promising.{promise}

@@ -1,5 +1,5 @@
 -- What holds of all scripts.
-use Rattle.std.specs.Prelude.{◌≡◌, ℕ, ◌<◌, ◌≤◌, false, List, ◌∷◌, ◌++◌, length, take, Ok, slice_index_or}
+use Rattle.std.specs.Prelude.{◌≡◌, ℕ, ◌≤◌, false, List, ◌∷◌, ◌++◌, length, take, Ok, slice_index_or}
 use Rattle.std.specs.List.{remove}
 use Rattle.histories.specs.declared.Call.TheVariants.{Read}
 use Rattle.histories.specs.Deeds.{Contribution, History}

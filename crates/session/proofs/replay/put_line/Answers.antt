@@ -1,5 +1,3 @@
-use Rattle.std.proofs.Common.{◌≡◌, ℕ, List, sym, ap, subst, ◌∙◌}
-use Rattle.session.specs.Writing.{Wrote}
 use Rattle.session.proofs.Written.{nothing_yet}
 use Rattle.session.proofs.replay.put_line.Goals as goal
 

@@ -1,11 +1,10 @@
-use Rattle.std.proofs.Common.{◌≡◌, ◌<◌, ◌≤◌, length, Ok, Result, OnOk, Err, refl, subst, sym, ap, ◌∙◌, arith}
-use Rattle.network.specs.Calls.{value_form}
+use Rattle.std.proofs.Common.{◌≡◌, ◌≤◌, length, Ok, subst, sym, arith}
 use Rattle.diffusion.specs.Turns.{Told}
 use Rattle.diffusion.specs.Runs.{rack, rack_tells}
 use Rattle.script.specs.declared.ask.Ask.{Ask}
 use Rattle.script.specs.declared.ask.Ask.TheVariants as ask
 use Rattle.script.specs.Asking.{seen_ask}
-use Rattle.session.specs.Owing.{whole, usage_tells}
+use Rattle.session.specs.Owing.{whole}
 use Rattle.session.specs.Answers.{said_tells}
 use Rattle.session.proofs.Serving.{Served, Said, said_so, heard, call_served, usage_served, enough}
 use Rattle.session.proofs.serve.say_answer.Goals as goal

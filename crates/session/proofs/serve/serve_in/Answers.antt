@@ -1,9 +1,4 @@
-use Rattle.std.proofs.Common.{◌≡◌, ℕ, List, sym, ap, subst, ◌∙◌}
-use Rattle.std.specs.Prelude.{is_some}
-use Rattle.script.specs.declared.ask.Stage.TheVariants.{Open}
-use Rattle.script.specs.Asking.{asked}
-use Rattle.session.specs.Owing.{open_owes}
-use Rattle.session.specs.Printed.{line_text}
+use Rattle.std.proofs.Common.{sym, subst, ◌∙◌}
 use Rattle.session.specs.Writing.{Wrote}
 use Rattle.session.proofs.Written.{nothing_yet}
 use Rattle.session.proofs.Serving.{was_ok}

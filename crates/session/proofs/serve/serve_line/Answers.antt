@@ -1,4 +1,4 @@
-use Rattle.std.proofs.Common.{◌≡◌, ℕ, List, subst}
+use Rattle.std.proofs.Common.{ℕ, subst}
 use Rattle.std.specs.Prelude.{is_some}
 use Rattle.script.specs.declared.ask.Stage.TheVariants.{Open}
 use Rattle.script.specs.Asking.{asked}
