@@ -81,8 +81,8 @@ def in_full_rows(kind, most):
 
 
 def gone_wrong(kind, most):
-    """A run, and rows made from it that are no runs, as counts and readings. Its end is above the zeros of an unused
-    place."""
+    """A run, and rows made from it that are no runs, as counts and readings. The run ends above an unused place, so one
+    place more does not rise."""
     run = [*run_of(kind, "wrong", most - 2), *with_hashes([TOP - 8, TOP - 6])]
     half = most // 2
     return run, [

@@ -689,36 +689,44 @@ macro_rules! by_kind {
     };
 }
 
+/// Counts a reading for each item, and writes the encoding; its length in bytes, or 0 where `out` is too short.
 #[inline(never)]
 pub fn count(kind: u32, items: &[u64], out: &mut [u8]) -> usize {
     by_kind!(kind, count_items(items, out))
 }
 
+/// Lets one value take `count` frames of `size` bytes each, and writes its encoding; how many were refused.
 #[inline(never)]
 pub fn decode(kind: u32, frames: &[u8], size: usize, count: usize, out: &mut [u8]) -> usize {
     by_kind!(kind, read_frames(frames, size, count, out))
 }
 
+/// Reads 64 frames, and `rounds` times over writes the encoding of each value.
 #[inline(never)]
 pub fn encode(kind: u32, frames: &[u8], size: usize, rounds: u64, out: &mut [u8]) {
     by_kind!(kind, write_values(frames, size, rounds, out))
 }
 
+/// Reads 64 frames, and `rounds` times over joins each value into one; writes the encoding of that.
 #[inline(never)]
 pub fn gather(kind: u32, frames: &[u8], size: usize, rounds: u64, out: &mut [u8]) {
     by_kind!(kind, join_values(frames, size, rounds, out))
 }
 
+/// Reads 64 frames, and `rounds` times over joins to a copy of each of the first 32 values each of the last 32 in turn;
+/// writes the encoding of the last one made.
 #[inline(never)]
 pub fn fuse(kind: u32, frames: &[u8], size: usize, rounds: u64, out: &mut [u8]) {
     by_kind!(kind, join_copies(frames, size, rounds, out))
 }
 
+/// Opens a network of seven nodes, and makes a turn for each word; the sum of the answers.
 #[inline(never)]
 pub fn turns(kind: u32, words: &[u64], frames: &[u8], size: usize, memory: &mut [u8], room: &mut [u8]) -> u64 {
     by_kind!(kind, make_turns(words, frames, size, memory, room))
 }
 
+/// Replays a script, and writes what is printed; how many bytes that is.
 #[inline(never)]
 pub fn replay(script: &[u8], out: &mut [u8]) -> usize {
     script::replay(script, open, out)

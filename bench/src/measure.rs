@@ -10,7 +10,8 @@ type Look<'a> = &'a mut dyn FnMut(&[u8]);
 
 type Samples = Box<dyn Fn(&Implementation, u64, Look)>;
 
-/// An operation, how many times one sample does it, and so many samples of it. No samples are what comes before and after.
+/// An operation: how often one sample does it, and a function that runs so many samples. With none it does only what
+/// comes before and after.
 struct Operation {
     name: String,
     count: u64,
@@ -232,6 +233,7 @@ fn floors() {
     });
 }
 
+/// Prints the names of the operations.
 pub fn list() {
     for operation in operations() {
         println!("{}", operation.name);

@@ -1,25 +1,33 @@
 //! Scripts replayed to memory: parse a line, make its call, print the answer.
 
-/// Why a call is refused: the number, and of bytes that are no frame the place and the kind.
+/// Why a call is refused.
 #[derive(Debug)]
 pub struct Refusal {
+    /// the number of the reason
     pub number: u8,
+    /// of bytes that are no frame: the place of the fault, and the kind
     pub at: Option<(usize, u8)>,
 }
 
 /// An open network with all that it is lent.
 pub trait Rack {
+    /// Joins a reading into a node's value.
     fn generate(&mut self, node: usize, tenant: u32, item: u64, amount: u64) -> Result<(), Refusal>;
+    /// Joins what bytes from outside encode into a node's value.
     fn arrive(&mut self, node: usize, frame: &[u8]) -> Result<(), Refusal>;
+    /// Encodes a node's value into a free slot.
     fn send(&mut self, node: usize, slot: usize) -> Result<(), Refusal>;
+    /// Joins what a slot holds into a node's value.
     fn deliver(&mut self, slot: usize, node: usize) -> Result<(), Refusal>;
+    /// Frees a slot.
     fn free(&mut self, slot: usize) -> Result<(), Refusal>;
+    /// Writes a node's encoding; its length in bytes.
     fn read(&mut self, node: usize, out: &mut [u8]) -> Result<usize, Refusal>;
-    /// The usage page; only called where the kind has pages.
+    /// Writes a node's usage page; its length in bytes. Only called where the kind has pages.
     fn page(&mut self, node: usize, out: &mut [u8]) -> Result<usize, Refusal>;
 }
 
-/// Opens a network of the kind of a letter.
+/// Opens a network of so many nodes, of the kind of a letter.
 pub type Open = fn(u8, usize) -> Result<Box<dyn Rack>, Refusal>;
 
 const LONGEST: usize = 2048;

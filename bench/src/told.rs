@@ -2,10 +2,11 @@
 
 const STEP: u64 = 0x9E37_79B9_7F4A_7C15;
 
-/// SplitMix64.
+/// Words drawn by SplitMix64; the field is its state.
 pub struct Draw(pub u64);
 
 impl Draw {
+    /// The next word, of 64 bits.
     pub fn word(&mut self) -> u64 {
         self.0 = self.0.wrapping_add(STEP);
         let z = (self.0 ^ (self.0 >> 30)).wrapping_mul(0xBF58_476D_1CE4_E5B9);
@@ -13,6 +14,7 @@ impl Draw {
         z ^ (z >> 31)
     }
 
+    /// A number below `most`: the remainder of the next word.
     pub fn below(&mut self, most: u64) -> u64 {
         self.word() % most
     }
@@ -27,16 +29,22 @@ fn item_with(hash: u64) -> u64 {
     (z ^ (z >> 30) ^ (z >> 60)).wrapping_sub(STEP)
 }
 
+/// Which items are told.
 #[derive(Clone, Copy, PartialEq)]
 pub enum Mode {
+    /// new items
     New,
+    /// items below 65,536
     Few,
+    /// items whose hashes fall
     Falling,
 }
 
+/// Every mode once.
 pub const MODES: [Mode; 3] = [Mode::New, Mode::Few, Mode::Falling];
 
 impl Mode {
+    /// What the output calls it.
     pub fn name(self) -> &'static str {
         match self {
             Mode::New => "new items",
@@ -59,12 +67,15 @@ pub fn items(mode: Mode, seed: u64, count: u64) -> Vec<u64> {
         .collect()
 }
 
-/// 64 frames of one size, each of so many readings, new or shared between the frames.
+/// Frames of one size.
 pub struct Frames {
+    /// the frames, one after the other
     pub bytes: Vec<u8>,
+    /// how many bytes each has
     pub size: usize,
 }
 
+/// 64 frames of one size, each of so many readings, new or shared between the frames.
 pub fn frames(kind: u32, readings: u64, seed: u64, shared: bool) -> Frames {
     let mut frames = Frames { bytes: Vec::new(), size: 0 };
     for place in 0..64 {

@@ -1,5 +1,5 @@
-// The library's calls for a measurement from C: on numbers and bytes, for each kind by its number, 1 bitmaps, 2 least values,
-// 3 the sample, any other number the standard pile.
+// The library's calls by the C convention, for the measurement in `bench/`: on numbers and bytes, for each kind by its number,
+// 1 bitmaps, 2 least values, 3 the sample, any other number the standard pile.
 #![tactic(auto)]
 
 mod copied;
@@ -111,9 +111,9 @@ pub extern "C" fn bench_gather(kind: u32, frames: &[u8], size: usize, rounds: u6
     }
 }
 
-/// Reads 64 frames as `bench_encode` does, and `rounds` times over joins to a copy of each of the first 32 each of the last 32 in
-/// turn. The encoding of the last value that was made, empty if none was, goes to the front of `out`, which stays where it is
-/// too short.
+/// Reads 64 frames as `bench_encode` does, and `rounds` times over joins to a copy of each of the first 32 each of the last 32
+/// in turn. The encoding of the last value that was made, empty if none was, goes to the front of `out`, which stays where it
+/// is too short.
 #[unsafe(no_mangle)]
 pub extern "C" fn bench_fuse(kind: u32, frames: &[u8], size: usize, rounds: u64, out: &mut [u8])
     ensures { out.new ≡ by_kind (λ k. encode_after k (again (joined_last k (take 32 (forms k size frames.now 64)) (drop 32 (forms k size frames.now 64))) rounds k.none) out.old) kind }
@@ -132,11 +132,11 @@ pub extern "C" fn bench_fuse(kind: u32, frames: &[u8], size: usize, rounds: u64,
     }
 }
 
-/// Opens a network of seven nodes over the memory, and makes a turn for each word. The lowest bits of a word tell, from the lowest
-/// up: 4 what is done (0 and 1 GENERATE, 2 ARRIVE, 3 to 6 SEND, 7 to 10 DELIVER, 11 to 13 DROP, 14 and 15 READ), 3 the node, 6
-/// the slot, and the others the item of a reading, or by their remainder by 64 which one of the frames of `size` bytes arrives.
-/// READ has all of the room. It answers the sum of the answers, each time 31 times what it was and the number of a refusal or the
-/// length of what was read, modulo 2^64; where OPEN is refused, the number of that.
+/// Opens a network of seven nodes over the memory, and makes a turn for each word. The lowest bits of a word tell, from the
+/// lowest up: 4 what is done (0 and 1 GENERATE, 2 ARRIVE, 3 to 6 SEND, 7 to 10 DELIVER, 11 to 13 DROP, 14 and 15 READ), 3 the
+/// node, 6 the slot, and the others the item of a reading, or by their remainder by 64 which one of the frames of `size` bytes
+/// arrives. READ has all of the room. It answers the sum of the answers, each time 31 times what it was plus the number of a
+/// refusal or the length of what was read, modulo 2^64; where OPEN is refused, the number of that.
 #[unsafe(no_mangle)]
 pub extern "C" fn bench_turns(
     kind: u32,
@@ -179,8 +179,8 @@ pub extern "C" fn bench_turns(
     }
 }
 
-/// Replays a script, and writes what is printed at the front of `out`. It answers how many bytes that are; or `usize::MAX`, as where
-/// they are more than `out` has, or more than 1 MiB.
+/// Replays a script, and writes what is printed at the front of `out`. It answers how many bytes that is, or `usize::MAX`, as
+/// where they are more than `out` has or more than 1 MiB.
 #[unsafe(no_mangle)]
 pub extern "C" fn bench_replay(script: &[u8], out: &mut [u8]) -> usize
     ensures { (result ≡ usize.MAX) ⊎ (take result out.new ≡ printed script.now) }

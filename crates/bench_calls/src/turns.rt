@@ -33,6 +33,7 @@ struct Task {
     number: u64,
 }
 
+// What the lowest four bits of a word ask for.
 fn act_of(n: u64) -> Act
     ensures { result ≡ act_of n }
 {
@@ -51,6 +52,7 @@ fn act_of(n: u64) -> Act
     }
 }
 
+// What a word asks for, and where.
 fn task_of(word: u64) -> Task
     ensures { result ≡ task_of word }
 {

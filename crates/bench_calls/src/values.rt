@@ -88,6 +88,7 @@ fn encode_all<S: Synopsis>(values: &[S], out: &mut [u8])
     }
 }
 
+// Reads a value from each frame, and `rounds` times over writes the encoding of each.
 pub(crate) fn encode<S: Synopsis>(
     values: &mut [S],
     frames: &[u8],
@@ -113,6 +114,7 @@ fn gather_all<S: Synopsis>(one: &mut S, values: &[S])
     }
 }
 
+// Reads a value from each frame, and `rounds` times over joins each into one, whose encoding it writes.
 pub(crate) fn gather<S: Synopsis>(
     values: &mut [S],
     frames: &[u8],
@@ -157,6 +159,8 @@ fn join_rounds<S: Copied>(place: &mut S, values: &[S], others: &[S], rounds: u64
     }
 }
 
+// Reads a value from each frame, and `rounds` times over joins a copy of each of the first 32 with each of the others. It
+// writes the encoding of the last one made.
 pub(crate) fn fuse<S: Copied>(
     values: &mut [S],
     frames: &[u8],

@@ -45,8 +45,8 @@ fn second_offset(frame: &[u8]) -> Result<usize, DecodeFault>
     Ok(offset)
 }
 
-// Gives a side the form that a part of a frame encodes; a fault's place counts from the start of the frame, and then the side
-// stays.
+// Gives a side the form that a part of a frame encodes. On a fault the side stays, and the place counts from the start of the
+// frame.
 fn decode_part<S: Synopsis>(
     side: &mut S,
     frame: &[u8],

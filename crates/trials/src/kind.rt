@@ -69,8 +69,8 @@ fn two_items<S: Synopsis>() -> S {
     value
 }
 
-// Decodes bytes into a place that equals `before`, and tells the outcome. An accepted value is encoded again: its frame is shown,
-// or in brief whether it is the same bytes.
+// Decodes bytes into a place that equals `before`, and tells the outcome. An accepted value is encoded again: its frame is
+// shown, or in brief whether it is the same bytes.
 fn at_place<S: Odd>(
     heap: Global,
     mut place: S,
@@ -93,7 +93,7 @@ fn at_place<S: Odd>(
     }
 }
 
-// What two ways gave; no case expects that they differ.
+// What both ways gave, or `apart` where they differ, which no case expects.
 pub(crate) fn same(heap: Global, one: String, other: String) -> Result<String, AllocError> {
     if one != other {
         return String::from_str(heap, "apart");
@@ -202,8 +202,8 @@ fn encoded<S: Synopsis>(heap: Global, frame: &[u8], size: usize) -> Result<Strin
     })
 }
 
-// Counts readings into a value, one after another: by ADD, and by FUSE with what MAKE gives, either way round. The value is
-// given once for each of these, which must not matter.
+// Counts readings into a value, one after another, in three ways: by ADD, and by FUSE with what MAKE gives, either way round.
+// `thrice` is the same value, once for each way.
 pub(crate) fn counted<S: Synopsis>(
     heap: Global,
     thrice: (S, S, S),
