@@ -95,6 +95,9 @@ module _ {E : Type 0} (order : E → E → Ordering) (blank : E → Bool) (k cou
     pub kept_items : T (is_run_row order blank count places) → (row_form order blank k count places).items ≡ take count places
     kept_items t = form_items ∙ row_counted order blank count places t
 
+    pub unkept_items : is_run_row order blank count places ≡ false → [] ≡ (row_form order blank k count places).items
+    unkept_items e = sym (form_items ∙ cond-false (is_run_row order blank count places) (take count places) [] e)
+
     -- a row is kept that counts a rising front and whose rest is fresh
     pub fresh_row : (x : E) → T (blank x) → count ≤ k → T (rising order (take count places)) → drop count places ≡ drop count (replicate k x) → T (is_run_row order blank count places)
     fresh_row x unused le up rest =
