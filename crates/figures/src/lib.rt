@@ -8,6 +8,7 @@ ghost use Rattle.figures.specs.Scripts.{WorkedScript};
 
 use bitmaps::zeros::lowest_zero;
 use readings::{mark, mix};
+use runs::keyed::Keyed;
 use runs::union::union;
 use usage::pile::greatest_lengths;
 
@@ -37,7 +38,16 @@ pub fn figures() -> Computed
     ensures script { WorkedScript }
 {
     let mut two_least = [0; 2];
-    let _ = union(&[1, 3], &[2, 3], &mut two_least);
+    // Hash values are their own keys.
+    let one = Keyed {
+        items: &[1, 3],
+        keys: &[1, 3],
+    };
+    let other = Keyed {
+        items: &[2, 3],
+        keys: &[2, 3],
+    };
+    let _ = union(&one, &other, &mut two_least);
     let hash_of_0 = mix(0);
     Computed {
         hash_of_0,
