@@ -547,7 +547,7 @@ fn count_items<K: Kind>(items: &[u64], out: &mut [u8]) -> usize {
     value.write(out).unwrap_or(0)
 }
 
-fn read_frames<K: Kind>(frames: &[u8], size: usize, count: usize, out: &mut [u8]) -> usize {
+fn decode_frames<K: Kind>(frames: &[u8], size: usize, count: usize, out: &mut [u8]) -> usize {
     let mut value = K::EMPTY;
     let refused = (0..count).filter(|i| value.read(part(frames, size, *i)).is_err()).count();
     value.write(out);
@@ -562,7 +562,7 @@ fn values<K: Kind>(frames: &[u8], size: usize) -> [K; 64] {
     })
 }
 
-fn write_values<K: Kind>(frames: &[u8], size: usize, rounds: u64, out: &mut [u8]) {
+fn encode_values<K: Kind>(frames: &[u8], size: usize, rounds: u64, out: &mut [u8]) {
     let values: [K; 64] = values(frames, size);
     for _ in 0..rounds {
         for value in &values {
@@ -571,7 +571,7 @@ fn write_values<K: Kind>(frames: &[u8], size: usize, rounds: u64, out: &mut [u8]
     }
 }
 
-fn join_values<K: Kind>(frames: &[u8], size: usize, rounds: u64, out: &mut [u8]) {
+fn gather_values<K: Kind>(frames: &[u8], size: usize, rounds: u64, out: &mut [u8]) {
     let values: [K; 64] = values(frames, size);
     let mut all = K::EMPTY;
     for _ in 0..rounds {
@@ -582,7 +582,7 @@ fn join_values<K: Kind>(frames: &[u8], size: usize, rounds: u64, out: &mut [u8])
     all.write(out);
 }
 
-fn join_copies<K: Kind>(frames: &[u8], size: usize, rounds: u64, out: &mut [u8]) {
+fn fuse_values<K: Kind>(frames: &[u8], size: usize, rounds: u64, out: &mut [u8]) {
     let values: [K; 64] = values(frames, size);
     let (firsts, others) = values.split_at(32);
     let mut made = K::EMPTY;
@@ -678,56 +678,4 @@ fn open(kind: u8, nodes: usize) -> Result<Box<dyn Rack>, Refusal> {
     }
 }
 
-macro_rules! by_kind {
-    ($kind:ident, $call:ident($($argument:expr),*)) => {
-        match $kind {
-            1 => $call::<Maps>($($argument),*),
-            2 => $call::<Values>($($argument),*),
-            3 => $call::<Few>($($argument),*),
-            _ => $call::<Pile>($($argument),*),
-        }
-    };
-}
-
-/// Counts a reading for each item, and writes the encoding; its length in bytes, or 0 where `out` is too short.
-#[inline(never)]
-pub fn count(kind: u32, items: &[u64], out: &mut [u8]) -> usize {
-    by_kind!(kind, count_items(items, out))
-}
-
-/// Lets one value take `count` frames of `size` bytes each, and writes its encoding; how many were refused.
-#[inline(never)]
-pub fn decode(kind: u32, frames: &[u8], size: usize, count: usize, out: &mut [u8]) -> usize {
-    by_kind!(kind, read_frames(frames, size, count, out))
-}
-
-/// Reads 64 frames, and `rounds` times over writes the encoding of each value.
-#[inline(never)]
-pub fn encode(kind: u32, frames: &[u8], size: usize, rounds: u64, out: &mut [u8]) {
-    by_kind!(kind, write_values(frames, size, rounds, out))
-}
-
-/// Reads 64 frames, and `rounds` times over joins each value into one; writes the encoding of that.
-#[inline(never)]
-pub fn gather(kind: u32, frames: &[u8], size: usize, rounds: u64, out: &mut [u8]) {
-    by_kind!(kind, join_values(frames, size, rounds, out))
-}
-
-/// Reads 64 frames, and `rounds` times over joins to a copy of each of the first 32 values each of the last 32 in turn;
-/// writes the encoding of the last one made.
-#[inline(never)]
-pub fn fuse(kind: u32, frames: &[u8], size: usize, rounds: u64, out: &mut [u8]) {
-    by_kind!(kind, join_copies(frames, size, rounds, out))
-}
-
-/// Opens a network of seven nodes, and makes a turn for each word; the sum of the answers.
-#[inline(never)]
-pub fn turns(kind: u32, words: &[u64], frames: &[u8], size: usize, memory: &mut [u8], room: &mut [u8]) -> u64 {
-    by_kind!(kind, make_turns(words, frames, size, memory, room))
-}
-
-/// Replays a script, and writes what is printed; how many bytes that is.
-#[inline(never)]
-pub fn replay(script: &[u8], out: &mut [u8]) -> usize {
-    script::replay(script, open, out)
-}
+calls!(Maps, Values, Few, Pile);

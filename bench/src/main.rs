@@ -1,6 +1,9 @@
 //! The proved library beside two implementations by hand: whether they answer the same, and how long each takes.
 #![deny(unsafe_code)]
 
+#[macro_use]
+mod calls;
+
 mod best;
 mod compare;
 mod measure;
