@@ -1,6 +1,6 @@
 -- What may enter a run, and where: what a run keeps of a union with others.
-use Rattle.std.proofs.Common.{◌≡◌, ℕ, zero, suc, ◌-◌, ◌<◌, ◌≤◌, T, ◌⊎◌, List, [], ◌∷◌, ◌++◌, length, map, take, drop, get_or, Ordering, Less, Equal, Greater, sym, refl, ap, ◌∙◌, subst, inl, inr, ⊎_elim, arith}
-use Rattle.std.proofs.lemmas.Bool.{cases_lt}
+use Rattle.std.proofs.Common.{◌≡◌, ℕ, zero, suc, ◌-◌, ◌<◌, ◌≤◌, true, T, ltb, ◌⊎◌, List, [], ◌∷◌, ◌++◌, length, map, take, drop, get_or, Ordering, Less, Equal, Greater, sym, refl, ap, ◌∙◌, subst, inl, inr, ⊎_elim, arith}
+use Rattle.std.proofs.lemmas.Bool.{cases_lt, ltb-true}
 use Rattle.std.proofs.lemmas.Bool.Decides.{nat_tests}
 use Rattle.std.proofs.lemmas.List.{get_or-take, get_or-map, length-map, length-take-le}
 use Rattle.std.specs.List.{AllByRecursion, AllWithin}
@@ -95,6 +95,14 @@ module _ {E : Type 0} (order : E → E → Ordering) (laws : Lawful order) where
       ap (λ (o : Ordering). pick o (x ∷ merge order xs (z ∷ [])) (x ∷ merge order xs []) (z ∷ against order x xs (merge order xs) [])) (less 0 d (omega arith) (omega arith))
       ∙ ap (λ (l : List E). x ∷ l) (inserted xs at z d (omega arith) (λ k e a b. less (suc k) e (omega arith) (omega arith)) (λ k e a b. more (suc k) e (omega arith) (omega arith)))
 
+  -- what is less than an element comes before it
+  merge_below : (xs : List E) (at : ℕ) (z : E) (zs : List E) → at ≤ length xs → AllWithin (λ y. order y z ≡ Less) xs 0 at → merge order xs (z ∷ zs) ≡ take at xs ++ merge order (drop at xs) (z ∷ zs)
+  merge_below xs zero z zs le less = refl
+  merge_below [] (suc at) z zs le less = absurd (omega arith)
+  merge_below (x ∷ xs) (suc at) z zs le less =
+      ap (λ (o : Ordering). pick o (x ∷ merge order xs (z ∷ zs)) (x ∷ merge order xs zs) (z ∷ against order x xs (merge order xs) zs)) (less 0 z (omega arith) (omega arith))
+      ∙ ap (λ (l : List E). x ∷ l) (merge_below xs at z zs (omega arith) (λ k e a b. less (suc k) e (omega arith) (omega arith)))
+
   -- a run stays where all of the other is there already
   pub there_stays : (k : ℕ) (xs ys : List E) → T (rising order xs) → T (rising order ys) → length xs ≤ k → ((x : E) → Among x ys → Among x xs) → union_of order k xs ys ≡ xs
   there_stays k xs ys hx hy le within =
@@ -182,3 +190,24 @@ module _ {E : Type 0} (order : E → E → Ordering) (laws : Lawful order) where
         let up : key (get_or ys i x) ≤ key (get_or ys j x) = keys_rise ys i j x h le inside in
         let more : get_or (map key ys) i d ≤ get_or (map key ys) j d = omega arith in
         index_up (get_or (map key ys) i d) (get_or (map key ys) j d) n more
+
+    -- that is, they are in order
+    pub keys_sorted : (xs : List E) → T (rising order xs) → IsNonDecreasingBy (λ m. m) (map key xs)
+    keys_sorted [] h i j d le lt = absurd (omega arith)
+    keys_sorted (x ∷ xs) h i j d le lt =
+        let ys = x ∷ xs in
+        let inside : j < length ys = omega (arith, length-map ys key) in
+        let a : get_or (map key ys) i d ≡ key (get_or ys i x) = get_or-map key ys i x d (omega arith) in
+        let b : get_or (map key ys) j d ≡ key (get_or ys j x) = get_or-map key ys j x d inside in
+        let up : key (get_or ys i x) ≤ key (get_or ys j x) = keys_rise ys i j x h le inside in
+        omega arith
+
+    -- those whose keys are below that of the first of a list come before it
+    pub keys_before : (xs ys : List E) (first at : ℕ) → at ≤ length xs → 0 < length ys → first ≡ get_or (map key ys) 0 first → AllWithin (λ n. ltb n first ≡ true) (map key xs) 0 at
+        → merge order xs ys ≡ take at xs ++ merge order (drop at xs) ys
+    keys_before xs [] first at le some is below = absurd (omega arith)
+    keys_before xs (z ∷ zs) first at le some is below =
+        merge_below xs at z zs le (λ i d from lt.
+        let read : get_or (map key xs) i first ≡ key (get_or xs i d) = get_or-map key xs i d first (omega arith) in
+        let less : get_or (map key xs) i first < first = ltb-true (get_or (map key xs) i first) first (below i first from lt) in
+        keyed (get_or xs i d) z (omega arith))

@@ -9,6 +9,7 @@ use Rattle.runs.specs.Order.{Lawful}
 use Rattle.runs.specs.Runs.{rising, Run, as_run, is_run_row, row_items, row_form}
 use Rattle.runs.specs.Union.{merge, union_of, joined_runs}
 use Rattle.runs.proofs.Rising.{left, right, true_from}
+use Rattle.runs.proofs.Steps.{begins_all}
 use Rattle.runs.proofs.Unions.{union_means}
 use Rattle.runs.proofs.Forms.{make_run, run_items, run_rises, run_few, same_run, of_items, join_unit}
 use Rattle.runs.proofs.Rows.{kept_items, make_row, joined_form}
@@ -86,16 +87,24 @@ module _ {E : Type 0} (order : E → E → Ordering) (laws : Lawful order) (blan
   pub one_item : (z : E) → 0 < k → (as_run order k (z ∷ [])).items ≡ z ∷ []
   one_item z some = run_items order k (z ∷ []) (make_run order k (z ∷ []) tt (omega arith))
 
-  -- the join with an empty run
-  pub joined_none : (x y : Run order k) → length x.items ≡ 0 → joined_runs order k x y ≡ y
-  joined_none x y e =
-      let none : x.items ≡ [] = nothing x.items e in
-      ap (λ (r : Run order k). joined_runs order k r y) (same_run order k x (as_run order k []) (none ∙ sym (run_items order k [] (make_run order k [] tt (omega arith)))))
-      ∙ join_unit order laws k y
+  -- as is one that their union begins with, where nothing of the other that may enter it is left
+  pub begun_joined : (x y : Run order k) (xs ys others : List E) (i j : ℕ) → xs ≡ x.items → ys ≡ y.items → union_of order k xs others ≡ union_of order k xs ys
+      → merge order xs others ≡ take i xs ++ merge order (drop i xs) (drop j others) → length others ≤ j → x ≡ joined_runs order k x y
+  begun_joined x y xs ys others i j p q enters begins none =
+      let few : length xs ≤ k = omega (arith, ap length p, run_few order k x) in
+      stays_joined x y xs ys p q (sym enters ∙ begins_all order k xs others i j begins none few)
+
+  -- an empty run
+  pub no_items : (x : Run order k) → length x.items ≡ 0 → x ≡ as_run order k []
+  no_items x e = same_run order k x (as_run order k []) (nothing x.items e ∙ sym (run_items order k [] (make_run order k [] tt (omega arith))))
     where
       nothing : (xs : List E) → length xs ≡ 0 → xs ≡ []
       nothing [] f = refl
       nothing (y ∷ ys) f = absurd (omega arith)
+
+  -- the join with it
+  pub joined_none : (x y : Run order k) → length x.items ≡ 0 → joined_runs order k x y ≡ y
+  joined_none x y e = ap (λ (r : Run order k). joined_runs order k r y) (no_items x e) ∙ join_unit order laws k y
 
   module _ (count : ℕ) (places : List E) (long : length places ≡ k) (run : List E) (is : run ≡ (row_form order blank k count places).items) (some : 0 < length run) where
     -- a row that stands for some elements is kept

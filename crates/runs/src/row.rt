@@ -6,7 +6,7 @@ use crate::element::{Element, Fresh};
 use crate::keyed::Keyed;
 use crate::place::{place_for, put_at};
 use crate::run::{all_blank, is_run_row};
-use crate::union::{entering, holds_all, union};
+use crate::union::{entering, known, union_from};
 
 /// A plain row of places. Nothing is known of it: a row that is no run stands for the empty run.
 #[derive(Clone, Copy, PartialEq, Eq, Debug)]
@@ -92,20 +92,27 @@ impl<E: Fresh, const N: usize> Row<E, N> {
     }
 
     /// Joins the run that another row stands for to that of this one, as their N-union: the N least elements found in either, or
-    /// all where there are fewer. The row stays as it is where that changes nothing. The last two are room for the keys of both.
+    /// all where there are fewer. Where that changes nothing, the row stays as it is, but one that fails the check becomes the
+    /// empty row. The last two are room for the keys of both.
     pub fn join(&mut self, other: &Row<E, N>, room: [u64; N], other_room: [u64; N])
-        ensures { form_of E.Ord.cmp E.Element.blank self.new ≡ joined_runs E.Ord.cmp N (form_of E.Ord.cmp E.Element.blank self.old) (form_of E.Ord.cmp E.Element.blank other.now) }
+        ensures form { form_of E.Ord.cmp E.Element.blank self.new ≡ joined_runs E.Ord.cmp N (form_of E.Ord.cmp E.Element.blank self.old) (form_of E.Ord.cmp E.Element.blank other.now) }
+        ensures kept { T (keeps E.Ord.cmp E.Element.blank self.new) }
     {
         let mut room = room;
         let mut other_room = other_room;
         let run = self.keyed(&mut room);
         let all = other.keyed(&mut other_room);
         let others = all.first(entering(&run, N, &all));
-        if holds_all(&run, &others) {
+        let (left, right) = known(&run, &others);
+        if right == others.items.len() {
+            // A row that stands for no elements may fail the check.
+            if run.items.is_empty() {
+                *self = Row::empty();
+            }
             return;
         }
         let mut places = [E::default(); N];
-        self.count = union(&run, &others, &mut places);
+        self.count = union_from(&run, &others, left, right, &mut places);
         self.places = places;
     }
 }

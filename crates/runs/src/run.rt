@@ -55,7 +55,12 @@ pub fn fall<E: Element>(items: &[E]) -> Option<usize>
 pub fn all_blank<E: Element>(items: &[E]) -> bool
     ensures { result ≡ list_all E.Element.blank items.now }
 {
-    items.iter().all(|x| x.is_blank())
+    // No early end, so that many places are tested at once.
+    let mut all = true;
+    for x in items {
+        all &= x.is_blank();
+    }
+    all
 }
 
 /// The check of a plain row: whether its first `count` places are a run, and the others are unused.

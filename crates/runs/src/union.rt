@@ -1,6 +1,6 @@
-ghost use Rattle.std.specs.Prelude.{◌≡◌, ℕ, ◌≤◌, ⊤, true, ◌<◌, T, [], ◌∷◌, length, take, drop, MatchOption};
+ghost use Rattle.std.specs.Prelude.{◌≡◌, ◌≤◌, T, [], ◌∷◌, ◌++◌, length, take, drop, MatchOption};
 ghost use Rattle.runs.specs.Runs.{rising};
-ghost use Rattle.runs.specs.Union.{Among, merge, union_of, Least, Either, Joins};
+ghost use Rattle.runs.specs.Union.{merge, union_of, Least, Either, Joins};
 
 use crate::element::{Element, order_by};
 use crate::keyed::Keyed;
@@ -56,17 +56,21 @@ fn advance<E: Element>(
     }
 }
 
-/// Writes the k-union of the runs `a` and `b` at the front of `out`, which has k places, and answers how many elements it has;
-/// the other places stay. The k-union has the k least elements found in either, or all where there are fewer.
-pub fn union<E: Element>(a: &Keyed<'_, E>, b: &Keyed<'_, E>, out: &mut [E]) -> usize
-    ensures count { result ≡ length (union_of E.Ord.cmp (length out.old) a.now.items.now b.now.items.now) }
-    ensures value { take result out.new ≡ union_of E.Ord.cmp (length out.old) a.now.items.now b.now.items.now }
+// Writes the union of what two runs have from these places on at the front of `out`, as far as there are places, and answers how
+// many elements it wrote; the other places stay.
+fn union_rest<E: Element>(
+    a: &Keyed<'_, E>,
+    b: &Keyed<'_, E>,
+    left: usize,
+    right: usize,
+    out: &mut [E],
+) -> usize
+    ensures count { result ≡ length (union_of E.Ord.cmp (length out.old) (drop left a.now.items.now) (drop right b.now.items.now)) }
+    ensures value { take result out.new ≡ union_of E.Ord.cmp (length out.old) (drop left a.now.items.now) (drop right b.now.items.now) }
     ensures same { drop result out.new ≡ drop result out.old }
-    ensures joins { Joins E.Ord.cmp }
-    ensures least { T (rising E.Ord.cmp a.now.items.now) → T (rising E.Ord.cmp b.now.items.now) → Least E.Ord.cmp (length out.old) (Either E.Ord.cmp a.now.items.now b.now.items.now) (take result out.new) }
 {
-    let mut left = 0;
-    let mut right = 0;
+    let mut left = left;
+    let mut right = right;
     for (n, place) in out.iter_mut().enumerate() {
         let Some(next) = advance(a, b, left, right) else {
             return n;
@@ -76,6 +80,48 @@ pub fn union<E: Element>(a: &Keyed<'_, E>, b: &Keyed<'_, E>, out: &mut [E]) -> u
         right = next.right;
     }
     out.len()
+}
+
+/// Writes the k-union of the runs `a` and `b` at the front of `out`, which has k places, and answers how many elements it has;
+/// the other places stay. The k-union has the k least elements found in either, or all where there are fewer.
+pub fn union<E: Element>(a: &Keyed<'_, E>, b: &Keyed<'_, E>, out: &mut [E]) -> usize
+    ensures count { result ≡ length (union_of E.Ord.cmp (length out.old) a.now.items.now b.now.items.now) }
+    ensures value { take result out.new ≡ union_of E.Ord.cmp (length out.old) a.now.items.now b.now.items.now }
+    ensures same { drop result out.new ≡ drop result out.old }
+    ensures joins { Joins E.Ord.cmp }
+    ensures least { T (rising E.Ord.cmp a.now.items.now) → T (rising E.Ord.cmp b.now.items.now) → Least E.Ord.cmp (length out.old) (Either E.Ord.cmp a.now.items.now b.now.items.now) (take result out.new) }
+{
+    union_rest(a, b, 0, 0, out)
+}
+
+// As `union`, where it is known that the union begins with the first `left` elements of `a`, and goes on from there and from
+// the place `right` of `b`. Not inlined, so that a join with nothing new pays nothing for it.
+#[inline(never)]
+pub(crate) fn union_from<E: Element>(
+    a: &Keyed<'_, E>,
+    b: &Keyed<'_, E>,
+    left: usize,
+    right: usize,
+    out: &mut [E],
+) -> usize
+    requires within { left ≤ length a.now.items.now }
+    requires fits { left ≤ length out.old }
+    requires begins { merge E.Ord.cmp a.now.items.now b.now.items.now ≡ take left a.now.items.now ++ merge E.Ord.cmp (drop left a.now.items.now) (drop right b.now.items.now) }
+    ensures count { result ≡ length (union_of E.Ord.cmp (length out.old) a.now.items.now b.now.items.now) }
+    ensures value { take result out.new ≡ union_of E.Ord.cmp (length out.old) a.now.items.now b.now.items.now }
+    ensures same { drop result out.new ≡ drop result out.old }
+{
+    // Lent anew here, so that they are known to stay while `out` is written.
+    let a = Keyed {
+        items: a.items,
+        keys: a.keys,
+    };
+    let b = Keyed {
+        items: b.items,
+        keys: b.keys,
+    };
+    out[..left].copy_from_slice(&a.items[..left]);
+    left + union_rest(&a, &b, left, right, &mut out[left..])
 }
 
 // How many of the first elements of the run `b` may enter the union with the run `a` of at most `most` elements: where `a` is
@@ -98,30 +144,37 @@ pub(crate) fn entering<E: Element>(a: &Keyed<'_, E>, most: usize, b: &Keyed<'_, 
     }
 }
 
-// The place of an element in a run, searched for from a place on; none where it is not found.
-fn place_from<E: Element>(a: &Keyed<'_, E>, from: usize, y: E, key: u64) -> Option<usize>
-    ensures { MatchOption result ⊤ (λ at. (at < length a.now.items.now) × Among y a.now.items.now) }
+// How many elements of `a` are passed before the first of `b`: found by halving where `b` is short, else none.
+fn passed<E: Element>(a: &Keyed<'_, E>, b: &Keyed<'_, E>) -> usize
+    requires { T (rising E.Ord.cmp a.now.items.now) }
+    ensures within { result ≤ length a.now.items.now }
+    ensures begins { merge E.Ord.cmp a.now.items.now b.now.items.now ≡ take result a.now.items.now ++ merge E.Ord.cmp (drop result a.now.items.now) b.now.items.now }
 {
-    // The next in turn, as where two runs are equal.
-    if *a.items.get(from)? == y {
-        return Some(from);
-    }
-    match a.keys.get(from..)?.binary_search(&key) {
-        Ok(i) if a.items[from + i] == y => Some(from + i),
-        _ => None,
+    match b.keys.first() {
+        Some(first) if b.keys.len() < a.keys.len() / 8 => a.keys.partition_point(|key| key < first),
+        _ => 0,
     }
 }
 
-// Whether each element of `b` was found in the run `a`, where they were searched for in turn.
-pub(crate) fn holds_all<E: Element>(a: &Keyed<'_, E>, b: &Keyed<'_, E>) -> bool
-    ensures { result ≡ true → (y : E) → Among y b.now.items.now → Among y a.now.items.now }
+// How far the union of two runs is made of elements of `a` alone: the places that it has come to there, in either run. It ends
+// where the next element of `b` is not in `a`, or with a run.
+pub(crate) fn known<E: Element>(a: &Keyed<'_, E>, b: &Keyed<'_, E>) -> (usize, usize)
+    requires { T (rising E.Ord.cmp a.now.items.now) }
+    ensures within { result.0 ≤ length a.now.items.now }
+    ensures begins { merge E.Ord.cmp a.now.items.now b.now.items.now ≡ take result.0 a.now.items.now ++ merge E.Ord.cmp (drop result.0 a.now.items.now) (drop result.1 b.now.items.now) }
 {
-    let mut from = 0;
-    for (i, y) in b.items.iter().enumerate() {
-        let Some(at) = place_from(a, from, *y, b.keys[i]) else {
-            return false;
+    let start = passed(a, b);
+    let mut right = 0;
+    for (i, x) in a.items[start..].iter().enumerate() {
+        let left = start + i;
+        let Some(y) = b.items.get(right) else {
+            return (left, right);
         };
-        from = at + 1;
+        if *x == *y {
+            right += 1;
+        } else if a.keys[left] >= b.keys[right] {
+            return (left, right);
+        }
     }
-    true
+    (a.items.len(), right)
 }
