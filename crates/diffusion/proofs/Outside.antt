@@ -1,12 +1,12 @@
 -- What no turn touches: values beyond the nodes, and memory outside the slots that were sent into.
 use Rattle.std.proofs.Common.{◌≡◌, ℕ, ◌+◌, ◌-◌, ◌<◌, ◌≤◌, min, Bool, true, false, cond, ◌⊎◌, List, ◌∷◌, ◌++◌, length, get_or, take, drop, None, Some, Option, inl, inr, suc, refl, sym, ap, ◌∙◌, subst, ⊎_elim, arith}
-use Rattle.std.proofs.lemmas.List.{length-set, length-map, length-append, length-drop, length-take-le, get_or-take, get_or-drop, get_or_append_left, get_or-append_right, same_lists}
+use Rattle.std.proofs.lemmas.List.{length-set, length-map, length-drop, length-take-le, get_or-take, get_or-drop, get_or_append_left, get_or-append_right, same_lists}
 use Rattle.std.proofs.lemmas.Bool.{ltb-false}
 use Rattle.synopsis.specs.Kind.{Kind, Laws}
 use Rattle.histories.specs.declared.Call.{Call}
 use Rattle.histories.specs.declared.Call.TheVariants.{Generate, Arrive, Send, Deliver, Drop, Read}
 use Rattle.histories.specs.declared.Turn.{Turn}
-use Rattle.histories.specs.Deeds.{History, Deed, deed, sent}
+use Rattle.histories.specs.Deeds.{History, Deed, deed}
 use Rattle.histories.specs.Paths.{newest, before}
 use Rattle.network.specs.Calls.{slot_start, placed}
 use Rattle.diffusion.specs.Turns.{Told, is_accepted, State, form_of, call_tells, written_node, if_accepted, written_by, SameBut, call_leaves}

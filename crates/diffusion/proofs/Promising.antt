@@ -1,19 +1,19 @@
 -- The promise is kept by every lawful kind.
-use Rattle.std.proofs.Common.{◌≡◌, ℕ, ◌+◌, Bool, true, false, cond, ◌||◌, ltb, leb, List, [], ◌∷◌, ◌++◌, map, length, None, Some, Option, sym, refl, ap, ◌∙◌, subst, arith}
+use Rattle.std.proofs.Common.{◌≡◌, ℕ, ◌<◌, Bool, true, false, cond, ◌||◌, ltb, leb, List, [], ◌∷◌, ◌++◌, map, length, sym, refl, ap, ◌∙◌, subst, arith}
 use Rattle.std.proofs.lemmas.List.{map_push, length-map}
 use Rattle.synopsis.specs.Kind.{Kind, Laws}
 use Rattle.histories.specs.declared.Call.TheVariants.{Read}
 use Rattle.histories.specs.declared.Turn.{Turn}
-use Rattle.histories.specs.Deeds.{deed, nothing, History, history_after}
-use Rattle.histories.specs.Folds.{node_form, IsFold}
+use Rattle.histories.specs.Deeds.{Contribution, deed, History, history_after}
+use Rattle.histories.specs.Folds.{node_form, Came, IsFold}
 use Rattle.histories.proofs.Finding.{found, complete, filled_found, filled_complete}
 use Rattle.histories.proofs.Folding.{arranged_is, same_contributions}
-use Rattle.histories.proofs.Exactly.{search_folds, fold_unique}
-use Rattle.diffusion.specs.Turns.{Told, done, bytes, refused, is_accepted, State, turn_tells, call_leaves, turn_leaves, written_node, if_accepted, SameBut}
+use Rattle.histories.proofs.Exactly.{search_folds, fold_unique, equal_folds}
+use Rattle.diffusion.specs.Turns.{Told, bytes, refused, is_accepted, call_leaves, written_node, if_accepted, SameBut}
 use Rattle.diffusion.specs.Runs.{Rack, formed, rack_tells, Step, Opened, Ran, begun, then}
 use Rattle.diffusion.specs.Owed.{Answered, due, more, none, owes, past, refused_if, call_owes}
-use Rattle.diffusion.specs.Promise.{Kept, Promise, GivesFold, node_holds}
-use Rattle.diffusion.proofs.Keeping.{Holding, tells_owes}
+use Rattle.diffusion.specs.Promise.{Kept, Promise, node_holds}
+use Rattle.diffusion.proofs.Keeping.{tells_owes}
 use Rattle.diffusion.proofs.Running.{holding, as_many, front}
 use Rattle.diffusion.proofs.Outside.{beyond}
 
@@ -122,8 +122,22 @@ module _ {S : Type 0} (k : Kind) (laws : Laws k) (form : S → k.Form) where
     kept = kept_by;
     fronts = λ first ts ws h last ran i le. front k form first ran i le;
     one_fold = λ h n x y p q. fold_unique k h n h x y p q;
+    equal_folds = λ h h' n n' x x' p q there back. ap k.encoding (equal_folds k laws h h' n n' x x' p q there back);
     agree = λ nodes nodes' values values' memory memory' first first' ts ts' ws ws' h h' last last' o ran o' ran' n n' lt lt' there back.
         let on = holding k form laws nodes values memory o ran in
         let on' = holding k form laws nodes' values' memory' o' ran' in
         ap k.encoding (on.nodes_hold n lt ∙ same_contributions k laws h h' n n' (found h) (λ i t. complete h i t on.sound) (found h') (λ i t. complete h' i t on'.sound) there back ∙ sym (on'.nodes_hold n' lt'));
   }
+
+-- so in any two runs of one kind, whatever the values of each are made of, nodes with equal sets of contributions hold the
+-- same bytes
+module _ {S S' : Type 0} (k : Kind) (form : S → k.Form) (form' : S' → k.Form) (p : Promise k form) (p' : Promise k form') where
+  pub agree_between : (nodes nodes' : ℕ) (values : List S) (values' : List S') (memory memory' : List ℕ) (first : Rack S) (first' : Rack S') (ts ts' : List Turn) (ws ws' : List Told) (h h' : History) (last : Rack S) (last' : Rack S')
+      → Opened k form nodes values memory first → Ran k form first ts ws h last → Opened k form' nodes' values' memory' first' → Ran k form' first' ts' ws' h' last'
+      → (n n' : ℕ) → n < nodes → n' < nodes'
+      → ((g : Contribution) → Came h n g → Came h' n' g) → ((g : Contribution) → Came h' n' g → Came h n g)
+      → k.encoding (node_holds k form last n) ≡ k.encoding (node_holds k form' last' n')
+  agree_between nodes nodes' values values' memory memory' first first' ts ts' ws ws' h h' last last' o ran o' ran' n n' lt lt' there back =
+      let on = p.kept nodes values memory first ts ws h last o ran in
+      let on' = p'.kept nodes' values' memory' first' ts' ws' h' last' o' ran' in
+      p.equal_folds h h' n n' (node_holds k form last n) (node_holds k form' last' n') (on.holds n lt) (on'.holds n' lt') there back

@@ -1,5 +1,5 @@
 -- A run begins with an accepted OPEN, goes on by one turn, and has two parts at each of its turns.
-use Rattle.std.proofs.Common.{◌≡◌, ℕ, ◌+◌, ◌<◌, ◌≤◌, Bool, true, false, ◌||◌, ltb, List, [], ◌∷◌, ◌++◌, map, length, get_or, take, drop, Ok, Err, refl, sym, ap, ◌∙◌, subst, ⊎_elim, arith}
+use Rattle.std.proofs.Common.{◌≡◌, ℕ, ◌+◌, ◌<◌, ◌≤◌, ◌||◌, ltb, List, [], ◌∷◌, ◌++◌, map, length, get_or, take, Ok, refl, sym, ap, ◌∙◌, subst, ⊎_elim, arith}
 use Rattle.std.proofs.lemmas.List.{take-map, length-map, length-take, length_push, take_more, take_all, drop_all, take-append-le, drop-append-le}
 use Rattle.std.proofs.lemmas.Bool.{ltb-false, or_parts, cases_lt}
 use Rattle.synopsis.specs.Kind.{Kind, Laws, overlong}
@@ -8,7 +8,7 @@ use Rattle.histories.specs.Deeds.{History, deed}
 use Rattle.network.specs.Tables.{Table}
 use Rattle.network.specs.Calls.{unless, with_enough_lent, open_answer, opened_network, Emptied}
 use Rattle.network.proofs.Refusing.{not_refused}
-use Rattle.diffusion.specs.Turns.{Told, is_accepted, State}
+use Rattle.diffusion.specs.Turns.{Told, is_accepted}
 use Rattle.diffusion.specs.Listening.{Heard, silence, more}
 use Rattle.diffusion.specs.Runs.{Rack, rack, formed, rack_tells, Step, Opened, Ran, begun, then, Made, Finished, StoppedAt}
 use Rattle.diffusion.specs.Promise.{Front}

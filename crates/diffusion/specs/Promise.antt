@@ -84,6 +84,11 @@ module _ {S : Type 0} (k : Kind) (form : S → k.Form) where
     pub fronts : (first : Rack S) (ts : List Turn) (ws : List Told) (h : History) (last : Rack S) → Ran k form first ts ws h last → (i : ℕ) → i ≤ length ts → Front first ts ws h last i
     -- there is one fold over the contributions with a path to a node
     pub one_fold : (h : History) (n : ℕ) (x y : k.Form) → IsFold k h n x → IsFold k h n y → x ≡ y
+    -- two folds over equal sets of contributions, of one history or of two, have the same bytes: so nodes of any two networks
+    -- of the kind agree, whatever their values are made of
+    pub equal_folds : (h h' : History) (n n' : ℕ) (x x' : k.Form) → IsFold k h n x → IsFold k h' n' x'
+        → ((g : Contribution) → Came h n g → Came h' n' g) → ((g : Contribution) → Came h' n' g → Came h n g)
+        → k.encoding x ≡ k.encoding x'
     -- in any two runs, of one network or two, nodes with equal sets of contributions hold the same bytes
     pub agree : (nodes nodes' : ℕ) (values values' : List S) (memory memory' : List ℕ) (first first' : Rack S) (ts ts' : List Turn) (ws ws' : List Told) (h h' : History) (last last' : Rack S)
         → Opened k form nodes values memory first → Ran k form first ts ws h last → Opened k form nodes' values' memory' first' → Ran k form first' ts' ws' h' last'

@@ -1,5 +1,5 @@
 -- Runs of turns, from the state that they begin with to the state that they leave.
-use Rattle.std.specs.Prelude.{◌≡◌, ℕ, ◌≤◌, Bool, true, false, List, [], ◌∷◌, ◌++◌, length, take, Ok, Err, Result}
+use Rattle.std.specs.Prelude.{◌≡◌, ℕ, ◌≤◌, List, [], ◌∷◌, ◌++◌, length, take, Ok, Err, Result}
 use Rattle.synopsis.specs.Kind.{Kind}
 use Rattle.histories.specs.declared.Turn.{Turn}
 use Rattle.histories.specs.Deeds.{deed, History}

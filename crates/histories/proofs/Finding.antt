@@ -12,6 +12,11 @@ pub did_le : {h : History} {i : ℕ} {d : Deed} → Did h i d → i ≤ length h
 did_le newest = omega arith
 did_le (before a) = let le = did_le a in omega arith
 
+-- turns are counted from 1
+pub did_pos : {h : History} {i : ℕ} {d : Deed} → Did h i d → 0 < i
+did_pos newest = omega arith
+did_pos (before a) = did_pos a
+
 -- what an older turn did, it did before the newest
 older : {e d : Deed} {h : History} {i : ℕ} → Did (e ∷ h) i d → i ≤ length h → Did h i d
 older newest le = absurd (omega arith)
@@ -20,6 +25,11 @@ older (before a) le = a
 the_newest : {e d : Deed} {h : History} {i : ℕ} → Did (e ∷ h) i d → length h < i → e ≡ d
 the_newest newest lt = refl
 the_newest (before a) lt = let le = did_le a in absurd (omega arith)
+
+-- a turn did one thing
+pub did_once : {h : History} {i : ℕ} {d e : Deed} → Did h i d → Did h i e → d ≡ e
+did_once newest b = the_newest b (omega arith)
+did_once (before a) b = did_once a (older b (did_le a))
 
 none_did : {i : ℕ} {d : Deed} → Did [] i d → ⊥
 none_did a = elim a [ ]
@@ -64,6 +74,11 @@ nothing_other q = let z : ◌≡◌ {A = ℕ} 0 1 = cc in omega arith
 pub path_turns : {h : History} {t n j : ℕ} → Path h t n j → (t ≤ j) × (j ≤ length h)
 path_turns (start a) = let le = did_le a in (omega arith, le)
 path_turns (hop p ik a kj d u) = let on = path_turns p in let le = did_le d in (omega arith, le)
+
+-- a path starts at a contribution
+pub reach_gave : (h : History) {t n j : ℕ} → Path h t n j → (m : ℕ) × (g : Contribution) × Did h t (contributed m g)
+reach_gave h (start {n = m} {g = g} a) = (m, g, a)
+reach_gave h (hop p ik a kj d u) = reach_gave h p
 
 -- a path is one of a longer history, and, where its last turn has come, of a shorter one
 path_up : {e : Deed} {h : History} {t n j : ℕ} → Path h t n j → Path (e ∷ h) t n j

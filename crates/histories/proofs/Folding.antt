@@ -40,6 +40,15 @@ module _ (k : Kind) where
   fold_same p q (dropped r ∷ h) same = fold_same p q h (λ t le. same t (omega arith))
   fold_same p q (nothing ∷ h) same = fold_same p q h (λ t le. same t (omega arith))
 
+  -- the fold over no contributions is the empty form
+  pub fold_none : (h : History) → fold_over k (λ t. false) h ≡ k.none
+  fold_none [] = refl
+  fold_none (contributed m g ∷ h) = fold_none h
+  fold_none (sent m r ∷ h) = fold_none h
+  fold_none (delivered r m ∷ h) = fold_none h
+  fold_none (dropped r ∷ h) = fold_none h
+  fold_none (nothing ∷ h) = fold_none h
+
   -- a contribution at a node is joined to what that node holds
   pub gave_here : (h : History) (m : ℕ) (g : Contribution) → node_form k (contributed m g ∷ h) m ≡ k.join (node_form k h m) (contribution_form k g)
   gave_here h m g =
@@ -75,6 +84,10 @@ module _ (k : Kind) where
   -- a delivery leaves the other nodes as they were
   pub delivered_else : (h : History) (s m n : ℕ) → (m ≡ n → ⊥) → node_form k (delivered s m ∷ h) n ≡ node_form k h n
   delivered_else h s m n ne = fold_same (reaches (delivered s m ∷ h) n) (reaches h n) h (λ t le. ap (λ x. (x && carries h s t) || reaches h n t) (ne_eqb m n ne))
+
+  -- a dropped slot has nothing, and the other slots have what they had
+  pub dropped_here : (h : History) (s : ℕ) → slot_form k (dropped s ∷ h) s ≡ k.none
+  dropped_here h s = fold_same (carries (dropped s ∷ h) s) (λ t. false) h (λ t le. cond-true (eqb s s) _ _ (eq-eqb s s refl)) ∙ fold_none h
 
   pub dropped_else : (h : History) (r s : ℕ) → (r ≡ s → ⊥) → slot_form k (dropped r ∷ h) s ≡ slot_form k h s
   dropped_else h r s ne = fold_same (carries (dropped r ∷ h) s) (carries h s) h (λ t le. cond-false (eqb r s) _ _ (ne_eqb r s ne))
