@@ -1,9 +1,10 @@
 -- The laws of or, of two maps and of two lists of them.
-use Rattle.std.specs.Prelude.{◌≡◌, ℕ, zero, suc, ◌/◌, ◌%◌, max, List, [], ◌∷◌, length, replicate, bit_or, refl}
+use Rattle.std.specs.Prelude.{◌≡◌, ℕ, zero, suc, ◌+◌, ◌/◌, ◌%◌, ◌<◌, max, List, [], ◌∷◌, ◌++◌, length, take, drop, replicate, bit_or, slice_index, slice_set, refl}
 use Rattle.std.proofs.Common.{sym, ap, ◌∙◌, arith}
 use Rattle.std.proofs.Math.Arith.{bin_ind}
 use Rattle.std.specs.Int.Bits.{or_step, or_self}
 use Rattle.std.proofs.lemmas.Nat.{or_comm}
+use Rattle.std.proofs.lemmas.List.{append_assoc, take_more_set, drop-set-lt, drop_more}
 use Rattle.bitmaps.specs.Bitmaps.{or_maps}
 
 -- bit by bit
@@ -59,3 +60,19 @@ maps_unit zero [] e = refl
 maps_unit zero (x ∷ xs) e = absurd (omega arith)
 maps_unit (suc n) [] e = absurd (omega arith)
 maps_unit (suc n) (x ∷ xs) e = ap (λ (l : List ℕ). x ∷ l) (maps_unit n xs (omega arith))
+
+-- the first i maps are joined, and then one more
+pub or_more : (maps others all : List ℕ) (i : ℕ) → i < length maps → i < length others → take i maps ++ or_maps (drop i maps) (drop i others) ≡ all → take (i + 1) (slice_set maps i (bit_or (slice_index maps i) (slice_index others i))) ++ or_maps (drop (i + 1) (slice_set maps i (bit_or (slice_index maps i) (slice_index others i)))) (drop (i + 1) others) ≡ all
+or_more maps others all i lt under inv =
+    let v = bit_or (slice_index maps i) (slice_index others i) in
+    let a = drop_more maps i 0 lt in
+    let b = drop_more others i 0 under in
+    let both : or_maps (drop i maps) (drop i others) ≡ v ∷ or_maps (drop (i + 1) maps) (drop (i + 1) others) =
+    ap (λ (l : List ℕ). or_maps l (drop i others)) a ∙ ap (or_maps (slice_index maps i ∷ drop (i + 1) maps)) b in
+    let front = take_more_set maps i v lt in
+    let behind = drop-set-lt (i + 1) maps i v (omega arith) in
+    ap (λ (l : List ℕ). l ++ or_maps (drop (i + 1) (slice_set maps i v)) (drop (i + 1) others)) front
+    ∙ ap (λ (l : List ℕ). (take i maps ++ v ∷ []) ++ or_maps l (drop (i + 1) others)) behind
+    ∙ append_assoc (take i maps) (v ∷ []) (or_maps (drop (i + 1) maps) (drop (i + 1) others))
+    ∙ ap (λ (l : List ℕ). take i maps ++ l) (sym both)
+    ∙ inv

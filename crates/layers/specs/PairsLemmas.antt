@@ -7,19 +7,20 @@ use Rattle.std.specs.List.{between}
 use Rattle.std.proofs.lemmas.List.{length-append, length-take, length-drop, take_at, take_all, drop_at, drop-drop, drop_more, take_rest, take-append-drop, append_assoc}
 use Rattle.std.proofs.lemmas.List.Edits.{length-between}
 use Rattle.std.proofs.lemmas.List.Elements.{All-from_get_or, Contains-append_left, Contains-append_right}
-use Rattle.std.proofs.lemmas.Result.{MatchResult-weaker}
+use Rattle.std.proofs.lemmas.Result.{MatchResult-at_ok, MatchResult-weaker}
 use Rattle.std.proofs.lemmas.Bool.{ltb-false, eq-eqb, eqb-true, cond-true, cond-false, cond_both, or_parts}
 use Rattle.std.proofs.lemmas.Bool.Decides.{nat_tests}
 use Rattle.synopsis.specs.declared.fault.DecodeFault.{DecodeFault}
-use Rattle.synopsis.specs.Kind.{Kind, Laws, overlong, over, encode_answer, encode_after}
+use Rattle.synopsis.specs.Kind.{Kind, Laws, overlong, frame_length, over, encode_answer, encode_after}
 use Rattle.synopsis.proofs.Fits.{over_so}
 use Rattle.synopsis.proofs.Reading.{read_apart, own_fault, Tells, tells_exact, tells_arises, tells_inside}
 use Rattle.frames.specs.declared.header.Header.{Header}
 use Rattle.frames.specs.Numbers.{in_bytes}
 use Rattle.frames.proofs.Headers.{Read, Opens, opened_header, opened_tells, header_back}
+use Rattle.frames.proofs.Fronts.{next_written}
 use Rattle.layers.specs.Parts.{then_read, raise, read_part}
 use Rattle.layers.specs.Pairs.{pair_head, pair_bytes, offset_in, misplaced, offset_after, second_offset, read_sides, pair_kind}
-use Rattle.layers.specs.PartsLemmas.{last_length, last_written, then_tells, part_tells}
+use Rattle.layers.specs.PartsLemmas.{fits_length, room_after, filled, last_length, last_written, then_tells, part_tells}
 
 -- a pair that is not overlong has no overlong side
 module _ (a b : Kind) (h : overlong (pair_kind a b) ≡ false) where
@@ -182,6 +183,46 @@ module _ (a b : Kind) (l : Laws a) (m : Laws b) where
     shut = λ h bytes. cond-true (overlong (pair_kind a b)) _ _ h;
   }
 
+-- a pair that is not overlong is written from the front on
+module _ (a b : Kind) (h : overlong (pair_kind a b) ≡ false) (x : a.Form) (y : b.Form) where
+  -- its frame is as long as the head and the frames of its sides
+  pub pair_length : (n m : ℕ) → n ≡ frame_length a x → m ≡ frame_length b y → 6 + n + m ≡ length (pair_bytes (a.encoding x) (b.encoding y))
+  pair_length n m p q =
+      let long = length_pair (a.encoding x) (b.encoding y) in
+      let first = fits_length a (first_fits a b h) x in
+      let second = fits_length b (second_fits a b h) y in
+      omega arith
+
+  -- the head and the sides, written one after another
+  pub pair_written : (out head p q : List ℕ) (n m : ℕ) → n ≡ frame_length a x → m ≡ frame_length b y → 6 + n + m ≤ length out → head ≡ pair_head (6 + n) (6 + n + m)
+      → p ≡ encode_after a x (between 6 (6 + n) (head ++ drop 6 out))
+      → q ≡ encode_after b y (between (6 + n) (6 + n + m) (put_mid 6 (6 + n - 6) (head ++ drop 6 out) p))
+      → put_mid (6 + n) (6 + n + m - (6 + n)) (put_mid 6 (6 + n - 6) (head ++ drop 6 out) p) q ≡ encode_after (pair_kind a b) (x, y) out
+  pair_written out head p q n m n_is m_is room head_is p_is q_is =
+      let at = 6 + n in
+      let end = 6 + n + m in
+      let whole = pair_length n m n_is m_is in
+      let first : n ≡ length (a.encoding x) = n_is ∙ fits_length a (first_fits a b h) x in
+      let second : m ≡ length (b.encoding y) = m_is ∙ fits_length b (second_fits a b h) y in
+      let six : length head ≡ 6 = ap length head_is in
+      let written = next_written head out 6 at six (omega arith) p in
+      let p_filled : p ≡ a.encoding x =
+      p_is ∙ filled a (first_fits a b h) x (between 6 at (head ++ drop 6 out)) (length-between (head ++ drop 6 out) 6 at (simp (length-append, length-drop) (omega arith)) ∙ omega arith) in
+      let front : length (head ++ p) ≡ at = simp length-append (omega (arith, ap length p_filled)) in
+      let q_filled : q ≡ b.encoding y =
+      q_is
+      ∙ ap (λ (l : List ℕ). encode_after b y (between at end l)) written
+      ∙ filled b (second_fits a b h) y (between at end ((head ++ p) ++ drop at out)) (length-between ((head ++ p) ++ drop at out) at end (simp (length-append, length-drop) (omega (arith, ap length p_filled))) ∙ omega arith) in
+      let parts : (head ++ p) ++ q ≡ pair_bytes (a.encoding x) (b.encoding y) =
+      ap (λ (l : List ℕ). (l ++ p) ++ q) (head_is ∙ ap (λ (i : ℕ). pair_head (6 + i) (6 + i + m)) first ∙ ap (λ (i : ℕ). pair_head (6 + length (a.encoding x)) (6 + length (a.encoding x) + i)) second)
+      ∙ ap (λ (l : List ℕ). (pair_head (6 + length (a.encoding x)) (6 + length (a.encoding x) + length (b.encoding y)) ++ l) ++ q) p_filled
+      ∙ ap (λ (l : List ℕ). (pair_head (6 + length (a.encoding x)) (6 + length (a.encoding x) + length (b.encoding y)) ++ a.encoding x) ++ l) q_filled in
+      ap (λ (l : List ℕ). put_mid at (end - at) l q) written
+      ∙ next_written (head ++ p) out at end front (omega arith) q
+      ∙ ap (λ (l : List ℕ). l ++ drop end out) parts
+      ∙ ap (λ (i : ℕ). pair_bytes (a.encoding x) (b.encoding y) ++ drop i out) whole
+      ∙ room_after (pair_kind a b) h (x, y) out (omega arith)
+
 -- the sides are written one behind the other, and the head last
 module _ (a b : Kind) (l : Laws a) (m : Laws b) (h : overlong (pair_kind a b) ≡ false) (x : a.Form) (y : b.Form) where
   pub sides_written : (out p q head : List ℕ) (n k : ℕ) → (pair_kind a b).greatest ≤ length out
@@ -230,3 +271,16 @@ pair_read a b l m h bytes at x y e small first second =
     ∙ ap (λ (r : Result a.Form DecodeFault). then_read r (λ z. then_read (read_part b at (length bytes) bytes) (λ w. Ok (z, w)))) first
     ∙ ap (λ (r : Result b.Form DecodeFault). then_read r (λ w. Ok (x, w))) second in
     (reads, (pair_laws a b l m).exact bytes (All-from_get_or (λ b. b < 256) bytes 0 (λ i _. small i)) (x, y) reads)
+
+-- the same of any two kinds, lawful or not, where each side is the encoding of the form that it is read as
+pub pair_read_of : (a b : Kind) → overlong (pair_kind a b) ≡ false → (bytes : List ℕ) (at : ℕ) (x : a.Form) (y : b.Form) → second_offset bytes ≡ Ok at → ((i : ℕ) → slice_index bytes i < 256)
+    → read_part a 6 at bytes ≡ Ok x → a.encoding x ≡ between 6 at bytes
+    → read_part b at (length bytes) bytes ≡ Ok y → b.encoding y ≡ between at (length bytes) bytes
+    → ((pair_kind a b).decoding bytes ≡ Ok (x, y)) × (pair_bytes (a.encoding x) (b.encoding y) ≡ bytes)
+pair_read_of a b h bytes at x y e small first first_is second second_is = (
+  cond-false (overlong (pair_kind a b)) _ _ h
+      ∙ ap (λ (r : Result ℕ DecodeFault). then_read r (read_sides a b bytes)) e
+      ∙ ap (λ (r : Result a.Form DecodeFault). then_read r (λ z. then_read (read_part b at (length bytes) bytes) (λ w. Ok (z, w)))) first
+      ∙ ap (λ (r : Result b.Form DecodeFault). then_read r (λ w. Ok (x, w))) second,
+  ap (λ (l : List ℕ). pair_bytes l (b.encoding y)) first_is ∙ ap (pair_bytes (between 6 at bytes)) second_is ∙ sides_whole bytes at (MatchResult-at_ok (Divided bytes) _ at e (offset_known bytes)) (All-from_get_or (λ b. b < 256) bytes 0 (λ i _. small i)),
+)

@@ -1,8 +1,9 @@
 -- Records of a sample are told apart by their key, and read back as they were written.
-use Rattle.std.specs.Prelude.{◌≡◌, ℕ, ◌<◌, Bool, true, ◌&&◌, ◌==◌, T, List, ◌++◌, take, drop}
+use Rattle.std.specs.Prelude.{◌≡◌, ℕ, ◌<◌, Bool, true, ◌&&◌, ◌==◌, T, List, ◌++◌, length, take, drop}
 use Rattle.std.specs.declared.cmp.Ordering.TheVariants.{Less}
 use Rattle.std.proofs.Common.{refl, sym, ap, ◌∙◌, arith}
-use Rattle.std.proofs.lemmas.List.{length-append, length-drop, length-take-le, drop-drop, take-append-drop}
+use borrow.Rule.Slice.PartMut.{put_mid}
+use Rattle.std.proofs.lemmas.List.{length-append, length-drop, length-take-le, take_all, drop_all, drop-drop, append_assoc, append-nil, take-append-drop}
 use Rattle.std.proofs.lemmas.List.Elements.{All-take, All-drop}
 use Rattle.std.proofs.lemmas.Bool.Decides.{nat_tests}
 use Rattle.std.specs.Cmp.{IsTotalOrder, IsPartialOrder, Agrees, both_ways, Equal-is, partial_order_from_agreeing_total}
@@ -10,6 +11,7 @@ use Rattle.std.specs.Ordering.{as_partial_cmp, eq_by_cmp, is_eq}
 use Rattle.runs.specs.Order.{Lawful}
 use Rattle.runs.proofs.Orders.{key_lawful, lawful_total, lawful_self}
 use Rattle.frames.specs.Numbers.{in_bytes, from_bytes}
+use Rattle.frames.proofs.Fronts.{next_written}
 use Rattle.frames.proofs.Numbers.{from_in_bytes, length_in}
 use Rattle.records.specs.Records.{Readable}
 use Rattle.records.specs.Layouts.{numbers_readable}
@@ -89,3 +91,35 @@ sample_readable = record {
       ∙ ap (λ (l : List ℕ). take 8 bytes ++ l) (take-append-drop 4 (drop 8 bytes))
       ∙ take-append-drop 8 bytes;
 }
+
+-- the three parts, written one behind the other, make up the bytes of the record
+pub parts_written : (x : SampleRecord) (out a b c : List ℕ) → length out ≡ 20 → a ≡ in_bytes 8 x.item → b ≡ in_bytes 4 x.tenant → c ≡ in_bytes 8 x.amount
+    → put_mid 12 8 (put_mid 8 4 (a ++ drop 8 out) b) c ≡ sample_layout.written x
+parts_written x out a b c long p q r =
+    let eight : length a ≡ 8 = ap length p in
+    let four : length b ≡ 4 = ap length q in
+    let twelve : length (a ++ b) ≡ 12 = length-append a b ∙ omega arith in
+    ap (λ (l : List ℕ). put_mid 12 8 l c) (next_written a out 8 12 eight (omega arith) b)
+    ∙ next_written (a ++ b) out 12 20 twelve (omega arith) c
+    ∙ ap (λ (l : List ℕ). ((a ++ b) ++ c) ++ l) (drop_all 20 out (omega arith))
+    ∙ append-nil ((a ++ b) ++ c)
+    ∙ append_assoc a b c
+    ∙ ap (λ (l : List ℕ). l ++ (b ++ c)) p
+    ∙ ap (λ (l : List ℕ). in_bytes 8 x.item ++ (l ++ c)) q
+    ∙ ap (λ (l : List ℕ). in_bytes 8 x.item ++ (in_bytes 4 x.tenant ++ l)) r
+
+-- the three parts that are read from twenty bytes make up the record that they are the bytes of
+pub parts_read : (x : SampleRecord) (bytes : List ℕ) → length bytes ≡ 20
+    → (x.item ≡ from_bytes (take 8 bytes)) × (in_bytes 8 x.item ≡ take 8 bytes)
+    → (x.tenant ≡ from_bytes (take 4 (drop 8 bytes))) × (in_bytes 4 x.tenant ≡ take 4 (drop 8 bytes))
+    → (x.amount ≡ from_bytes (take 8 (drop 12 bytes))) × (in_bytes 8 x.amount ≡ take 8 (drop 12 bytes))
+    → (x ≡ sample_layout.read bytes) × (sample_layout.written x ≡ bytes)
+parts_read x bytes long p q r =
+    let rest : take 8 (drop 12 bytes) ≡ drop 12 bytes = take_all 8 (drop 12 bytes) (simp length-drop (omega arith)) in (
+      same_record x _ p.0 q.0 (r.0 ∙ ap from_bytes rest),
+      ap (λ (l : List ℕ). l ++ (in_bytes 4 x.tenant ++ in_bytes 8 x.amount)) p.1
+          ∙ ap (λ (l : List ℕ). take 8 bytes ++ (l ++ in_bytes 8 x.amount)) q.1
+          ∙ ap (λ (l : List ℕ). take 8 bytes ++ (take 4 (drop 8 bytes) ++ l)) (r.1 ∙ rest ∙ sym (drop-drop 4 8 bytes))
+          ∙ ap (λ (l : List ℕ). take 8 bytes ++ l) (take-append-drop 4 (drop 8 bytes))
+          ∙ take-append-drop 8 bytes,
+    )
