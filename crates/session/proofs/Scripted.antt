@@ -1,5 +1,5 @@
 -- The laws of scripts.
-use Rattle.std.proofs.Common.{◌≡◌, ℕ, suc, ◌+◌, ◌≤◌, Bool, true, false, ◌||◌, cond, List, [], ◌∷◌, ◌++◌, length, take, drop, get_or, Ok, Err, Result, ltb, leb, refl, sym, ap, subst, ◌∙◌, arith, append_assoc}
+use Rattle.std.proofs.Common.{◌≡◌, ℕ, suc, ◌+◌, ◌≤◌, Bool, true, false, ◌||◌, cond, List, [], ◌∷◌, ◌++◌, length, take, drop, get_or, None, Some, Ok, Err, Result, ltb, leb, refl, sym, ap, subst, ◌∙◌, arith, append_assoc}
 use Rattle.std.specs.List.{remove}
 use Rattle.std.proofs.lemmas.Bool.{cond-false, le-ltb}
 use Rattle.std.proofs.lemmas.List.{take-append-drop}
@@ -16,12 +16,13 @@ use Rattle.histories.specs.declared.Call.{Call}
 use Rattle.histories.specs.declared.Call.TheVariants.{Generate, Arrive, Send, Deliver, Drop, Read}
 use Rattle.histories.specs.Deeds.{Contribution, deed_of, History}
 use Rattle.histories.specs.Search.{filled, Sound}
-use Rattle.histories.specs.Folds.{node_form, Came}
-use Rattle.histories.proofs.Finding.{found, complete}
-use Rattle.histories.proofs.Folding.{same_contributions}
-use Rattle.diffusion.specs.Turns.{Told, done, is_accepted}
+use Rattle.histories.specs.Folds.{node_form, Came, IsFold}
+use Rattle.histories.proofs.Finding.{found, complete, filled_found, filled_complete}
+use Rattle.histories.proofs.Folding.{arranged_is, same_contributions}
+use Rattle.histories.proofs.Exactly.{search_folds}
+use Rattle.diffusion.specs.Turns.{Told, done, bytes, is_accepted}
 use Rattle.diffusion.specs.Owed.{owes, refused_if}
-use Rattle.diffusion.proofs.Promising.{read_owed}
+use Rattle.diffusion.proofs.Promising.{read_owed, unrefused}
 use Rattle.script.specs.declared.fault.LineFault.{LineFault}
 use Rattle.script.specs.declared.ask.KindLetter.{KindLetter}
 use Rattle.script.specs.declared.ask.KindLetter.TheVariants as letter
@@ -30,9 +31,9 @@ use Rattle.script.specs.declared.ask.Ask.TheVariants as ask
 use Rattle.script.specs.Asking.{asked}
 use Rattle.script.specs.Lines.{lines}
 use Rattle.session.specs.Printed.{line_text, printed_from, printed}
-use Rattle.session.specs.Standing.{Standing, closed, opened, kind_of_letter, stage_of, ask_owes, ask_leaves, line_owes, line_leaves, answers, stands}
-use Rattle.session.specs.Owing.{whole, opens}
-use Rattle.session.specs.Scripts.{ReadGives, ScriptLaws}
+use Rattle.session.specs.Standing.{Standing, closed, opened, kind_of_letter, page_of_letter, stage_of, ask_owes, ask_leaves, line_owes, line_leaves, answers, stands}
+use Rattle.session.specs.Owing.{Page, whole, usage_tells, opens}
+use Rattle.session.specs.Scripts.{ReadGives, PageGives, PathLaws, ScriptLaws}
 
 -- a refused line leaves a script where it stands
 stays : (st : Standing) (a : Result Ask LineFault) → is_accepted (ask_owes st a) ≡ false → ask_leaves st a ≡ st
@@ -138,6 +139,33 @@ read_gives l nodes h n bs r =
     let room = r.1 in
     read_owed (kind_of_letter l) nodes h (whole (Read n room)) n room bs refl (sym (ap (ask_owes (opened l nodes h)) r.2) ∙ r.3)
 
+-- the page that a line is owed is that of the node's form
+page_owed : (k : Kind) (page : Page) (nodes : ℕ) (forms : ℕ → k.Form) (n : ℕ) (bs : List ℕ) → usage_tells k page nodes forms n ≡ bytes bs → (page_of : List ℕ → List ℕ) × (page ≡ Some page_of) × (bs ≡ page_of (k.encoding (forms n)))
+page_owed k None nodes forms n bs e = absurd (cc)
+page_owed k (Some page_of) nodes forms n bs e =
+    let xs = page_of (k.encoding (forms n)) in
+    let same : bytes xs ≡ bytes bs = unrefused (leb nodes n) 4 (bytes xs) bs e in (page_of, refl, cc)
+
+page_gives : (l : KindLetter) (nodes : ℕ) (h : History) (n : ℕ) (bs : List ℕ) → PageGives (opened l nodes h) n bs → (page_of : List ℕ → List ℕ) × (page_of_letter l ≡ Some page_of) × (bs ≡ page_of ((kind_of_letter l).encoding (node_form (kind_of_letter l) h n)))
+page_gives l nodes h n bs g =
+    page_owed (kind_of_letter l) (page_of_letter l) nodes (node_form (kind_of_letter l) h) n bs (sym (ap (ask_owes (opened l nodes h)) g.1) ∙ g.2)
+
+-- what is read there, by paths
+path_laws : (l : KindLetter) (nodes : ℕ) (h : History) → Sound h → PathLaws (kind_of_letter l) l nodes h
+path_laws l nodes h ok =
+    let k = kind_of_letter l in
+    let folds : (n : ℕ) → IsFold k h n (node_form k h n) = λ n. search_folds k h n (λ t. found h n t) (λ t. complete h n t ok) h in
+    record {
+      found = found h;
+      complete = λ n t. complete h n t ok;
+      sent_into = filled_found h;
+      lying = filled_complete h;
+      holds = folds;
+      reads = λ n bs r. (node_form k h n, folds n, read_gives l nodes h n bs r);
+      pages = λ n bs g. (node_form k h n, folds n, page_gives l nodes h n bs g);
+      arranged = λ n x a bs r. read_gives l nodes h n bs r ∙ ap k.encoding (sym (arranged_is k (letter_laws l) h n (found h) (λ i t. complete h i t ok) x a));
+    }
+
 agree : (script script' : List (List ℕ)) (l : KindLetter) (nodes nodes' : ℕ) (h h' : History) → stands closed script ≡ opened l nodes h → stands closed script' ≡ opened l nodes' h'
     → (n n' : ℕ) → ((g : Contribution) → Came h n g → Came h' n' g) → ((g : Contribution) → Came h' n' g → Came h n g)
     → (bs bs' : List ℕ) → ReadGives (opened l nodes h) n bs → ReadGives (opened l nodes' h') n' bs' → bs ≡ bs'
@@ -156,5 +184,6 @@ script_laws = record {
   fronts = fronts closed;
   front_bytes = front_bytes;
   taken_out = taken_out closed;
+  paths = λ script l nodes h e. path_laws l nodes h (subst SoundAt e (sound_stands closed script tt));
   agree = agree;
 }
