@@ -90,7 +90,7 @@ fn answer(rt: &impl Print, lent: &mut Lent, line: &str) -> io::Result<()> {
     }
 }
 
-fn main(rt: HostRuntime) -> io::Result<()> {
+fn main(rt: HostRuntime) -> anyhow::Result<()> {
     let mut lent = Lent {
         maps: [Bitmaps::empty(); NODES],
         least: [LeastValues::empty(); NODES],

@@ -108,64 +108,92 @@ fn decoded<S: Odd>(heap: Global, bytes: &[u8], brief: bool) -> Result<String, Al
     same(heap, one, other)
 }
 
-// Decodes each byte string; equal outcomes in a row are counted.
-fn all_decoded<S: Odd>(heap: Global, many: &[Vec<u8>]) -> Result<String, AllocError> {
-    let mut outcomes = Vec::new(heap);
-    for bytes in many {
-        outcomes.push(decoded::<S>(heap, bytes, true)?)?;
-    }
-    let mut told = String::new(heap);
-    for run in outcomes.chunk_by(|one, next| one == next) {
-        let gap = if told.is_empty() { "" } else { ", " };
-        if let [outcome, ..] = run {
-            write!(told, "{gap}{}*{outcome}", run.len())?;
+// Outcomes as they come, with equal ones in a row counted.
+#[derive(Drop)]
+struct Tally {
+    // what is written down
+    told: String,
+    // what came last, and how often in a row
+    last: String,
+    times: usize,
+}
+
+impl Tally {
+    fn new(heap: Global) -> Tally {
+        Tally {
+            told: String::new(heap),
+            last: String::new(heap),
+            times: 0,
         }
     }
-    Ok(told)
+
+    // Writes down what was counted.
+    fn settle(&mut self) -> Result<(), AllocError> {
+        let gap = if self.told.is_empty() { "" } else { ", " };
+        write!(self.told, "{gap}{}*{}", self.times, self.last)
+    }
+
+    // Counts what became of bytes.
+    fn add(&mut self, outcome: String) -> Result<(), AllocError> {
+        if self.times > 0 && outcome != self.last {
+            self.settle()?;
+            self.times = 0;
+        }
+        self.last = outcome;
+        self.times = self.times.saturating_add(1);
+        Ok(())
+    }
+
+    // All that was counted.
+    fn end(mut self) -> Result<String, AllocError> {
+        self.settle()?;
+        Ok(self.told)
+    }
 }
 
-// The bytes with one more, whichever it is.
-fn extended(heap: Global, front: &[u8]) -> Result<Vec<Vec<u8>>, AllocError> {
-    let mut many = Vec::new(heap);
+// Decodes the bytes with one more, whichever it is.
+fn extended<S: Odd>(heap: Global, front: &[u8]) -> Result<String, AllocError> {
+    let mut tally = Tally::new(heap);
+    let mut bytes = Vec::from_slice(heap, front)?;
     for last in 0..=255u8 {
-        let mut bytes = Vec::from_slice(heap, front)?;
         bytes.push(last)?;
-        many.push(bytes)?;
+        tally.add(decoded::<S>(heap, &bytes, true)?)?;
+        bytes.truncate(front.len());
     }
-    Ok(many)
+    tally.end()
 }
 
-// Each front part of the bytes.
-fn cut(heap: Global, bytes: &[u8]) -> Result<Vec<Vec<u8>>, AllocError> {
-    let mut many = Vec::new(heap);
+// Decodes each front part of the bytes.
+fn cut<S: Odd>(heap: Global, bytes: &[u8]) -> Result<String, AllocError> {
+    let mut tally = Tally::new(heap);
     for n in 0..=bytes.len() {
-        many.push(Vec::from_slice(heap, &bytes[..n])?)?;
+        tally.add(decoded::<S>(heap, &bytes[..n], true)?)?;
     }
-    Ok(many)
+    tally.end()
 }
 
-// The bytes with one of them changed by a mask, each in turn.
-fn changed(heap: Global, bytes: &[u8], mask: u8) -> Result<Vec<Vec<u8>>, AllocError> {
-    let mut many = Vec::new(heap);
+// Decodes the bytes with one of them changed by a mask, each in turn.
+fn changed<S: Odd>(heap: Global, bytes: &[u8], mask: u8) -> Result<String, AllocError> {
+    let mut tally = Tally::new(heap);
     for i in 0..bytes.len() {
         let mut other = Vec::from_slice(heap, bytes)?;
         if let Some(byte) = other.get_mut(i) {
             *byte ^= mask;
         }
-        many.push(other)?;
+        tally.add(decoded::<S>(heap, &other, true)?)?;
     }
-    Ok(many)
+    tally.end()
 }
 
-// The byte strings that a line asks about.
-fn many(heap: Global, fields: &[&str]) -> Result<Vec<Vec<u8>>, Fault> {
+// Decodes the byte strings that a line asks about, one after another.
+fn all_decoded<S: Odd>(heap: Global, fields: &[&str]) -> Result<String, Fault> {
     match fields {
-        ["all", text] => Ok(extended(heap, &bytes(heap, text)?)?),
-        ["cuts", text] => Ok(cut(heap, &bytes(heap, text)?)?),
+        ["all", text] => Ok(extended::<S>(heap, &bytes(heap, text)?)?),
+        ["cuts", text] => Ok(cut::<S>(heap, &bytes(heap, text)?)?),
         ["changes", text, mask] => {
             let (bytes, mask) = (bytes(heap, text)?, bytes(heap, mask)?);
             match mask.as_slice() {
-                [mask] if !bytes.is_empty() => Ok(changed(heap, &bytes, *mask)?),
+                [mask] if !bytes.is_empty() => Ok(changed::<S>(heap, &bytes, *mask)?),
                 _ => Err(Fault::Form),
             }
         }
@@ -244,6 +272,6 @@ pub(crate) fn answer<S: Odd>(heap: Global, fields: &[&str]) -> Result<String, Fa
             let thrice = (value_of(&frame)?, value_of(&frame)?, value_of(&frame)?);
             counted::<S>(heap, thrice, readings)
         }
-        _ => Ok(all_decoded::<S>(heap, &many(heap, fields)?)?),
+        _ => all_decoded::<S>(heap, fields),
     }
 }

@@ -13,8 +13,8 @@ use layers::pair::Pair;
 use least::row::LeastValues;
 use readings::{mark, mix, output};
 use sample::row::Sample;
-use std::alloc::Global;
-use std::io::{self, BufRead, BufReader, ErrorKind};
+use std::alloc::{AllocError, Global};
+use std::io::{BufRead, BufReader};
 use usage::pile::{FourSamples, StandardPile};
 
 const MOST_OUTPUTS: u64 = 64;
@@ -67,12 +67,12 @@ fn answer(heap: Global, line: &str) -> Result<String, Fault> {
     }
 }
 
-fn main(rt: HostRuntime) -> io::Result<()> {
+fn main(rt: HostRuntime) -> anyhow::Result<()> {
     for line in BufReader::new(rt.alloc(), rt.reader())?.lines(rt.alloc()) {
         match answer(rt.alloc(), line?.as_str()) {
             Ok(told) => rt.println(told)?,
             Err(Fault::Form) => rt.println("bad line")?,
-            Err(Fault::Memory) => return Err(io::Error::from(ErrorKind::OutOfMemory)),
+            Err(Fault::Memory) => return Err(AllocError.into()),
         }
     }
     Ok(())
