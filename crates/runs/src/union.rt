@@ -156,8 +156,8 @@ fn passed<E: Element>(a: &Keyed<'_, E>, b: &Keyed<'_, E>) -> usize
     }
 }
 
-// How far the union of two runs is made of elements of `a` alone: the places that it has come to there, in either run. It ends
-// where the next element of `b` is not in `a`, or with a run.
+// A front part of the union of two runs that is made of elements of `a` alone: the places that it has come to there, in either
+// run. It ends where the next element of `b` is not in `a`, or stands there behind another one with its key, or with a run.
 pub(crate) fn known<E: Element>(a: &Keyed<'_, E>, b: &Keyed<'_, E>) -> (usize, usize)
     requires { T (rising E.Ord.cmp a.now.items.now) }
     ensures within { result.0 ≤ length a.now.items.now }
