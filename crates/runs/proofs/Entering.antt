@@ -9,6 +9,7 @@ use Rattle.std.specs.Ordering.{nat_cmp, ordering_index}
 use Rattle.runs.specs.Order.{Lawful}
 use Rattle.runs.specs.Runs.{rising}
 use Rattle.runs.specs.Union.{Among, Least, Either, pick, against, merge, union_of}
+use Rattle.runs.proofs.Steps.{next_less}
 use Rattle.runs.proofs.Rising.{all_among, all_from_among, above, rest_rises, never_less}
 use Rattle.runs.proofs.Unions.{own, like, widen, joins, union_means, take_rises, from_take}
 
@@ -92,7 +93,7 @@ module _ {E : Type 0} (order : E → E → Ordering) (laws : Lawful order) where
   inserted (x ∷ xs) zero z d le less more =
       ap (λ (o : Ordering). pick o (x ∷ merge order xs (z ∷ [])) (x ∷ merge order xs []) (z ∷ against order x xs (merge order xs) [])) (more 0 d (omega arith) (omega arith))
   inserted (x ∷ xs) (suc at) z d le less more =
-      ap (λ (o : Ordering). pick o (x ∷ merge order xs (z ∷ [])) (x ∷ merge order xs []) (z ∷ against order x xs (merge order xs) [])) (less 0 d (omega arith) (omega arith))
+      next_less order x z xs [] (less 0 d (omega arith) (omega arith))
       ∙ ap (λ (l : List E). x ∷ l) (inserted xs at z d (omega arith) (λ k e a b. less (suc k) e (omega arith) (omega arith)) (λ k e a b. more (suc k) e (omega arith) (omega arith)))
 
   -- what is less than an element comes before it
@@ -100,7 +101,7 @@ module _ {E : Type 0} (order : E → E → Ordering) (laws : Lawful order) where
   merge_below xs zero z zs le less = refl
   merge_below [] (suc at) z zs le less = absurd (omega arith)
   merge_below (x ∷ xs) (suc at) z zs le less =
-      ap (λ (o : Ordering). pick o (x ∷ merge order xs (z ∷ zs)) (x ∷ merge order xs zs) (z ∷ against order x xs (merge order xs) zs)) (less 0 z (omega arith) (omega arith))
+      next_less order x z xs zs (less 0 z (omega arith) (omega arith))
       ∙ ap (λ (l : List E). x ∷ l) (merge_below xs at z zs (omega arith) (λ k e a b. less (suc k) e (omega arith) (omega arith)))
 
   -- a run stays where all of the other is there already
@@ -179,19 +180,7 @@ module _ {E : Type 0} (order : E → E → Ordering) (laws : Lawful order) where
         let more : last < key (get_or ys i x) = grind (arith, nat_tests) in
         inr (keyed z (get_or ys i x) (omega arith)))
 
-    -- and can be searched for
-    pub keys_answers : (xs : List E) (n : ℕ) → T (rising order xs) → IsNonDecreasingBy (λ m. ordering_index (nat_cmp m n)) (map key xs)
-    keys_answers [] n h i j d le lt = absurd (omega arith)
-    keys_answers (x ∷ xs) n h i j d le lt =
-        let ys = x ∷ xs in
-        let inside : j < length ys = omega (arith, length-map ys key) in
-        let a : get_or (map key ys) i d ≡ key (get_or ys i x) = get_or-map key ys i x d (omega arith) in
-        let b : get_or (map key ys) j d ≡ key (get_or ys j x) = get_or-map key ys j x d inside in
-        let up : key (get_or ys i x) ≤ key (get_or ys j x) = keys_rise ys i j x h le inside in
-        let more : get_or (map key ys) i d ≤ get_or (map key ys) j d = omega arith in
-        index_up (get_or (map key ys) i d) (get_or (map key ys) j d) n more
-
-    -- that is, they are in order
+    -- they are in order
     pub keys_sorted : (xs : List E) → T (rising order xs) → IsNonDecreasingBy (λ m. m) (map key xs)
     keys_sorted [] h i j d le lt = absurd (omega arith)
     keys_sorted (x ∷ xs) h i j d le lt =
@@ -201,6 +190,10 @@ module _ {E : Type 0} (order : E → E → Ordering) (laws : Lawful order) where
         let b : get_or (map key ys) j d ≡ key (get_or ys j x) = get_or-map key ys j x d inside in
         let up : key (get_or ys i x) ≤ key (get_or ys j x) = keys_rise ys i j x h le inside in
         omega arith
+
+    -- so they can be searched for
+    pub keys_answers : (xs : List E) (n : ℕ) → T (rising order xs) → IsNonDecreasingBy (λ m. ordering_index (nat_cmp m n)) (map key xs)
+    keys_answers xs n h i j d le lt = index_up (get_or (map key xs) i d) (get_or (map key xs) j d) n (keys_sorted xs h i j d le lt)
 
     -- those whose keys are below that of the first of a list come before it
     pub keys_before : (xs ys : List E) (first at : ℕ) → at ≤ length xs → 0 < length ys → first ≡ get_or (map key ys) 0 first → AllWithin (λ n. ltb n first ≡ true) (map key xs) 0 at
